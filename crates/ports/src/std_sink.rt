@@ -1,0 +1,49 @@
+ghost use Rattle.std.specs.Prelude.{◌≡◌};
+ghost use Rattle.ports.specs.Streams.{writer, writer_faults};
+
+use crate::fault::{Failed, FaultCount};
+use crate::sink::Sink;
+use std::io::Write;
+
+/// A sink over a writer of std. Each error of the writer is a fault, an interrupted call too, and so is
+/// a write that takes nothing of a nonempty piece. Where the writer tells its contents, they are what
+/// was taken. It flushes nothing.
+#[derive(Drop)]
+pub struct StdSink<W: Write> {
+    inner: W,
+    faults: FaultCount,
+}
+
+impl<W: Write> StdSink<W> {
+    /// A sink that hands on to the writer. Its count of faults is 0.
+    pub fn new(inner: W) -> Self
+        ensures inner { writer result ≡ inner }
+        ensures faults { writer_faults result ≡ 0 }
+    {
+        StdSink {
+            inner,
+            faults: FaultCount::new(),
+        }
+    }
+}
+
+impl<W: Write> Sink for StdSink<W> {
+    ghost taken = { λ sink. W.contents (writer sink) };
+
+    ghost faults = { λ sink. writer_faults sink };
+
+    fn write(&mut self, piece: &[u8]) -> Result<usize, Failed> {
+        match self.inner.write(piece) {
+            Ok(count) => {
+                if count == 0 && !piece.is_empty() {
+                    self.faults.raise();
+                }
+                Ok(count)
+            }
+            Err(_) => {
+                self.faults.raise();
+                Err(Failed)
+            }
+        }
+    }
+}
