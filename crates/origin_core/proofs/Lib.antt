@@ -1,0 +1,11 @@
+pub mod PageLemmas
+pub mod OriginLemmas
+pub mod SiteLemmas
+pub mod HostLaw
+pub mod OriginLaw
+pub mod TupleLemmas
+pub mod SameLaw
+pub mod PortLaw
+pub mod FlagLaws
+pub mod ReadBack
+pub mod DomainLaw
