@@ -1,0 +1,3 @@
+pub mod AscendingLaws
+pub mod Texts
+pub mod SameLaw

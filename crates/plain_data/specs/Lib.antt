@@ -1,0 +1,5 @@
+pub mod Ascending
+pub mod Commas
+pub mod DataText
+pub mod Same
+pub mod formers
