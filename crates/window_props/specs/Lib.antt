@@ -1,0 +1,10 @@
+pub mod Keys
+pub mod Values
+pub mod ValueText
+pub mod Platform
+pub mod Cross
+pub mod Ordinary
+pub mod History
+pub mod Invariants
+pub mod Rows
+pub mod Shown
