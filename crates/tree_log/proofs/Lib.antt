@@ -1,0 +1,5 @@
+pub mod Places
+pub mod BlankLaws
+pub mod HomeRows
+pub mod Kept
+pub mod Admitted

@@ -1,0 +1,12 @@
+pub mod Range
+pub mod Log
+pub mod Facts
+pub mod Tree
+pub mod Urls
+pub mod NamedChildren
+pub mod Admits
+pub mod Homes
+pub mod Blanking
+pub mod LogText
+pub mod HomeRows
+pub mod Examples

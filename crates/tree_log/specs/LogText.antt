@@ -1,0 +1,108 @@
+-- How a log prints: a line for each entry, the oldest first.
+use Rattle.std.specs.Prelude.{ℕ, List, [], ◌∷◌, ◌++◌, length, Option, Some, None, codes, decimal}
+use Rattle.json.specs.Print.{quoted}
+use Rattle.plain_data.specs.DataText.{data_text}
+use Rattle.origin_core.specs.Origin.{origin_words}
+use Rattle.origin_core.specs.declared.origin.Origin.{Origin}
+use Rattle.origin_core.specs.Flags.{flags_text}
+use Rattle.tree_log.specs.declared.entry.Entry.{Entry}
+use Rattle.tree_log.specs.declared.entry.Load.{Load}
+use Rattle.tree_log.specs.declared.entry.Target.{Target}
+use Rattle.tree_log.specs.declared.entry.Target.TheVariants as target
+use Rattle.tree_log.specs.declared.entry.Cause.{Cause}
+use Rattle.tree_log.specs.declared.entry.Cause.TheVariants as cause
+use Rattle.tree_log.specs.declared.entry.What.{What}
+use Rattle.tree_log.specs.declared.entry.What.TheVariants.{Open, Frame, Drop, Name, Begin, Commit, Fragment, Opener, Post, Fire, Lapse, Closing, Gone, Lost, Sync, Hidden}
+
+-- one text and then another. It groups to the right, as what a format writes does
+infixr 10 ◌◊◌
+abbrev pub ◌◊◌ : List ℕ → List ℕ → List ℕ
+a ◊ b = a ++ b
+
+-- a letter and a number, as n1, or - where there is none
+abbrev pub numbered : List ℕ → Option ℕ → List ℕ
+numbered letter None = codes "-"
+numbered letter (Some n) = letter ◊ decimal n
+
+-- where a new navigable loads its first document
+abbrev pub load_words : Option Load → List ℕ
+load_words None = codes "load=-"
+load_words (Some l) =
+    codes "load=d" ◊ decimal l.doc ◊ codes " lhome=" ◊ decimal l.home ◊ codes " lorigin=" ◊ origin_words l.origin
+    ◊ codes " lurl=" ◊ quoted l.url
+
+-- the load that an existing navigable begins
+abbrev pub begin_words : Load → List ℕ
+begin_words l =
+    codes " d" ◊ decimal l.doc ◊ codes " home=" ◊ decimal l.home ◊ codes " origin=" ◊ origin_words l.origin
+    ◊ codes " url=" ◊ quoted l.url
+
+abbrev pub target_words : Target → List ℕ
+target_words target.Any = codes "*"
+target_words target.Never = codes "never"
+target_words (target.Origin origin) = origin_words origin
+
+abbrev pub cause_words : Cause → List ℕ
+cause_words cause.Inactive = codes "inactive"
+cause_words cause.Origin = codes "origin"
+
+-- the numbers and the origin of a window that opens
+unfoldable pub open_front : ℕ → ℕ → ℕ → ℕ → Origin → List ℕ
+open_front nav doc group home origin =
+    codes "open n" ◊ decimal nav ◊ codes " d" ◊ decimal doc ◊ codes " g" ◊ decimal group ◊ codes " home=" ◊ decimal home
+    ◊ codes " origin=" ◊ origin_words origin
+
+-- its name, its opener, its flags, its navigator and what it loads
+unfoldable pub open_back : List ℕ → Option ℕ → ℕ → Option ℕ → Option Load → List ℕ
+open_back name opener flags navigator load =
+    codes " name=" ◊ quoted name ◊ codes " opener=" ◊ numbered (codes "n") opener ◊ codes " flags=" ◊ flags_text flags
+    ◊ codes " navigator=" ◊ numbered (codes "n") navigator ◊ codes " " ◊ load_words load
+
+-- the numbers and the origin of a frame
+unfoldable pub frame_front : ℕ → ℕ → ℕ → Origin → List ℕ
+frame_front nav doc home origin =
+    codes "frame n" ◊ decimal nav ◊ codes " d" ◊ decimal doc ◊ codes " home=" ◊ decimal home ◊ codes " origin=" ◊ origin_words origin
+
+-- its name, its flags and what it loads
+unfoldable pub frame_back : List ℕ → ℕ → Option Load → List ℕ
+frame_back name flags load = codes " name=" ◊ quoted name ◊ codes " flags=" ◊ flags_text flags ◊ codes " " ◊ load_words load
+
+-- what happened, after the three columns that each line begins with
+unfoldable pub what_words : What → List ℕ
+what_words (Open nav doc group home origin name opener flags navigator load) =
+    open_front nav doc group home origin ◊ open_back name opener flags navigator load
+what_words (Frame nav doc home origin name flags load) = frame_front nav doc home origin ◊ frame_back name flags load
+what_words (Drop nav) = codes "drop n" ◊ decimal nav
+what_words (Name nav name) = codes "name n" ◊ decimal nav ◊ codes " " ◊ quoted name
+what_words (Begin nav load) = codes "begin n" ◊ decimal nav ◊ begin_words load
+what_words (Commit nav doc begin) =
+    codes "commit n" ◊ decimal nav ◊ codes " d" ◊ decimal doc ◊ codes " begin=" ◊ decimal begin
+what_words (Fragment nav doc url) =
+    codes "fragment n" ◊ decimal nav ◊ codes " d" ◊ decimal doc ◊ codes " url=" ◊ quoted url
+what_words (Opener nav to) = codes "opener n" ◊ decimal nav ◊ codes " to=" ◊ numbered (codes "n") to
+what_words (Post to from origin target body) =
+    codes "post to=d" ◊ decimal to ◊ codes " from=n" ◊ decimal from ◊ codes " origin=" ◊ origin_words origin
+    ◊ codes " target=" ◊ target_words target ◊ codes " data=" ◊ data_text body
+what_words (Fire doc post) = codes "fire d" ◊ decimal doc ◊ codes " post=" ◊ decimal post
+what_words (Lapse doc post cause) =
+    codes "lapse d" ◊ decimal doc ◊ codes " post=" ◊ decimal post ◊ codes " cause=" ◊ cause_words cause
+what_words (Closing nav) = codes "closing n" ◊ decimal nav
+what_words (Gone nav) = codes "gone n" ◊ decimal nav
+what_words (Lost renderer) = codes "lost r" ◊ decimal renderer
+what_words Sync = codes "sync"
+what_words Hidden = codes "hidden"
+
+-- the line of an entry that stands at a place: the place, the renderer, the acting document, and what happened
+unfoldable pub entry_line : ℕ → Entry → List ℕ
+entry_line place e =
+    decimal place ◊ codes " " ◊ numbered (codes "r") e.by ◊ codes " " ◊ numbered (codes "d") e.actor ◊ codes " "
+    ◊ what_words e.what ◊ codes "\n"
+
+-- the lines of a log
+abbrev pub log_lines : List Entry → List ℕ
+log_lines [] = []
+log_lines (e ∷ older) = log_lines older ◊ entry_line (length older) e
+
+-- the text of a log: how many entries it has, and their lines
+unfoldable pub log_words : List Entry → List ℕ
+log_words log = codes "log " ◊ decimal (length log) ◊ codes "\n" ◊ log_lines log

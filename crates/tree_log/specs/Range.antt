@@ -1,0 +1,30 @@
+-- What the type of each origin and URL in an entry promises. A definition's entry may hold any text there.
+use Rattle.std.specs.Prelude.{List, All, IfSome, ⊤}
+use Rattle.origin_core.specs.Origin.{IsOrigin}
+use Rattle.origin_core.specs.Page.{IsPageText}
+use Rattle.tree_log.specs.declared.entry.Entry.{Entry}
+use Rattle.tree_log.specs.declared.entry.Load.{Load}
+use Rattle.tree_log.specs.declared.entry.Target.{Target}
+use Rattle.tree_log.specs.declared.entry.Target.TheVariants as target
+use Rattle.tree_log.specs.declared.entry.What.{What}
+use Rattle.tree_log.specs.declared.entry.What.TheVariants.{Open, Frame, Begin, Fragment, Post}
+
+-- the URL is that of a page, and the origin is in range
+abbrev pub IsLoadInRange : Load → Type 0
+IsLoadInRange load = IsPageText load.url × IsOrigin load.origin
+
+abbrev pub IsTargetInRange : Target → Type 0
+IsTargetInRange (target.Origin origin) = IsOrigin origin
+IsTargetInRange _ = ⊤
+
+-- every origin and URL of what happened is in range
+abbrev pub IsInRange : What → Type 0
+IsInRange (Open _ _ _ _ origin _ _ _ _ load) = IsOrigin origin × IfSome load IsLoadInRange
+IsInRange (Frame _ _ _ origin _ _ load) = IsOrigin origin × IfSome load IsLoadInRange
+IsInRange (Begin _ load) = IsLoadInRange load
+IsInRange (Fragment _ _ url) = IsPageText url
+IsInRange (Post _ _ origin target _) = IsOrigin origin × IsTargetInRange target
+IsInRange _ = ⊤
+
+abbrev pub AreInRange : List Entry → Type 0
+AreInRange entries = All (λ e. IsInRange e.what) entries
