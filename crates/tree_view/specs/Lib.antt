@@ -1,0 +1,5 @@
+pub mod Rows
+pub mod NewRows
+pub mod Closed
+pub mod Shown
+pub mod Ordered
