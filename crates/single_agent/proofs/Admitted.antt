@@ -1,0 +1,119 @@
+-- The entries of a legal log can follow one another.
+use Rattle.std.proofs.Common.{◌≡◌, ℕ, ◌+◌, ◌<◌, ◌^◌, List, [], ◌∷◌, length, Option, Some, None, Bool, true, false, refl, subst, ◌∙◌, arith, inl, inr, eq-eqb}
+use mathlib.Core.Logic.{◌⊎◌}
+use Rattle.std.specs.Prelude.{◌&&◌, ◌||◌, ◌==◌, not, nat_lt, IsTrue, if◌then◌else◌}
+use Rattle.std.proofs.lemmas.Bool.Decides.{nat_tests}
+use Rattle.tree_log.specs.declared.entry.Entry.{Entry}
+use Rattle.tree_log.specs.declared.entry.Load.{Load}
+use Rattle.tree_log.specs.declared.entry.What.{What}
+use Rattle.tree_log.specs.declared.entry.What.TheVariants.{Open, Frame, Begin, Commit}
+use Rattle.tree_log.specs.Log.{is}
+use Rattle.tree_log.specs.Facts.{or_else}
+use Rattle.tree_log.specs.Tree.{Tree, tree_of, nav_of, is_discarded}
+use Rattle.tree_log.specs.Admits.{has, is_next, admits_what, admits, AreAdmitted}
+use Rattle.tree_log.proofs.Admitted.{both, StandsFor, StandsIfAny, LoadsStand, AllStand, loads_stand, few_of}
+use Rattle.single_agent.specs.declared.session.Session.{Session}
+use Rattle.single_agent.specs.Session.{starts_of, started, start_entry}
+use Rattle.single_agent.specs.NextTask.{load_waits, load_task, task_of, first_task, next_task, task_entry}
+use Rattle.single_agent.specs.LegalLog.{IsLegalLog, Started, Taken}
+
+lt_true : (a b : ℕ) → a < b → nat_lt a b ≡ true
+lt_true a b h = grind (arith, nat_tests)
+
+not_true : (b : Bool) → not b ≡ true → b ≡ false
+not_true true h = absurd cc
+not_true false h = refl
+
+-- A TASK
+
+commit_admitted : (t : Tree) (r place nav : ℕ) (load : Load) → StandsFor t nav load → (t.doc load.doc).been_active ≡ false → admits_what t (Some r) None (Commit nav load.doc place) ≡ true
+commit_admitted t r place nav load s never =
+    let there = lt_true nav t.navs s.nav_there in
+    let made = lt_true load.doc t.docs s.doc in
+    let same = eq-eqb (nav_of t load.doc) nav s.made_for in
+    rw (there, made, same, never) refl
+
+waiting_admitted : (t : Tree) (r place nav : ℕ) (load : Load) (what : What) (b : Bool) → load_waits t r nav load ≡ b → StandsFor t nav load
+    → (if b then Some (Commit nav load.doc place) else None) ≡ Some what → admits_what t (Some r) None what ≡ true
+waiting_admitted t r place nav load what false e s h = absurd cc
+waiting_admitted t r place nav load what true e s h =
+    let same : Commit nav load.doc place ≡ what = cc in
+    let first = both (load.home == r && is (t.nav nav).last_load load.doc && not (t.doc load.doc).been_active) (not (is_discarded t nav)) e in
+    let second = both (load.home == r && is (t.nav nav).last_load load.doc) (not (t.doc load.doc).been_active) first.0 in
+    subst (λ (w : What). admits_what t (Some r) None w ≡ true) same (commit_admitted t r place nav load s (not_true _ second.1))
+
+load_admitted : (t : Tree) (r place nav : ℕ) (load : Option Load) (what : What) → StandsIfAny t nav load → load_task t r place nav load ≡ Some what → admits_what t (Some r) None what ≡ true
+load_admitted t r place nav None what s h = absurd cc
+load_admitted t r place nav (Some load) what s h = waiting_admitted t r place nav load what (load_waits t r nav load) refl s h
+
+task_of_admitted : (t : Tree) (r place : ℕ) (w what : What) → LoadsStand t w → task_of t r place w ≡ Some what → admits_what t (Some r) None what ≡ true
+task_of_admitted t r place (Open nav _ _ _ _ _ _ _ _ load) what s h = load_admitted t r place nav load what s h
+task_of_admitted t r place (Frame nav _ _ _ _ _ load) what s h = load_admitted t r place nav load what s h
+task_of_admitted t r place (Begin nav load) what s h = load_admitted t r place nav (Some load) what s h
+task_of_admitted t r place _ what s h = absurd cc
+
+either_is : (a b : Option What) (what : What) → or_else a b ≡ Some what → (a ≡ Some what) ⊎ (b ≡ Some what)
+either_is (Some w) b what h = inl h
+either_is None b what h = inr h
+
+first_admitted : (t : Tree) (r : ℕ) (log : List Entry) (what : What) → AllStand t log → first_task t r log ≡ Some what → admits_what t (Some r) None what ≡ true
+first_admitted t r [] what s h = absurd cc
+first_admitted t r (e ∷ older) what s h =
+    elim (either_is (first_task t r older) (task_of t r (length older) e.what) what h) [
+      | inl p ↦ first_admitted t r older what s.1 p
+      | inr p ↦ task_of_admitted t r (length older) e.what what s.0 p
+    ]
+
+-- the entry of a next task can follow the log
+pub task_admitted : (log : List Entry) (r : ℕ) (what : What) → AreAdmitted log → length log < 2 ^ 30 → next_task log r ≡ Some what → IsTrue (admits (tree_of log) (task_entry r what))
+unfolding next_task admits
+task_admitted log r what all few h =
+    let len = (few_of log).len in
+    rw (lt_true (tree_of log).len 4294967295 (omega arith), first_admitted (tree_of log) r log what (loads_stand log all) h) refl
+
+-- THE START WINDOWS
+
+or_true : (a b : Bool) → b ≡ true → (a || b) ≡ true
+or_true true b h = refl
+or_true false b h = h
+
+next_true : (n : ℕ) → n < 4294967295 → is_next n n ≡ true
+next_true n h = rw (eq-eqb n n refl, lt_true n 4294967295 h) refl
+
+pub start_admitted : (n : ℕ) (log : List Entry) (url : List ℕ) → length log < 2 ^ 30 → admits (tree_of log) (start_entry n (tree_of log) url) ≡ true
+unfolding admits
+start_admitted n log url h =
+    let few = few_of log in
+    let t = tree_of log in
+    rw (
+      lt_true t.len 4294967295 (omega (arith, few.len)),
+      next_true t.navs (omega (arith, few.navs)),
+      next_true t.docs (omega (arith, few.docs)),
+      or_true (has t.groups t.groups) (is_next t.groups t.groups) (next_true t.groups (omega (arith, few.groups))),
+      next_true (t.docs + 1) (omega (arith, few.docs)),
+    ) refl
+
+pub started_admitted : (n : ℕ) (log : List Entry) (urls : List (List ℕ)) → AreAdmitted log → length log + length urls < 2 ^ 30 → AreAdmitted (started n log urls)
+started_admitted n log [] all few = all
+started_admitted n log (url ∷ urls) all few =
+    started_admitted n (start_entry n (tree_of log) url ∷ log) urls (start_admitted n log url (omega arith), all) (omega arith)
+
+started_length : (n : ℕ) (log : List Entry) (urls : List (List ℕ)) → length (started n log urls) ≡ length log + length urls
+started_length n log [] = omega arith
+started_length n log (url ∷ urls) = started_length n (start_entry n (tree_of log) url ∷ log) urls ∙ (omega arith)
+
+pub starts_length : (s : Session) → length (starts_of s) ≡ length s.start
+unfolding starts_of
+starts_length s = started_length s.renderers [] s.start ∙ (omega arith)
+
+starts_admitted : (s : Session) → length (starts_of s) < 2 ^ 30 → AreAdmitted (starts_of s)
+unfolding starts_of
+starts_admitted s few = started_admitted s.renderers [] s.start tt (let e = started_length s.renderers [] s.start in omega arith)
+
+-- LEGAL LOGS
+
+pub legal_admitted : (s : Session) (log : List Entry) → IsLegalLog s log → length log < 2 ^ 30 → AreAdmitted log
+legal_admitted s log Started few = starts_admitted s few
+legal_admitted s log (Taken older r what legal there next) few =
+    let all = legal_admitted s older legal (omega arith) in
+    (task_admitted older r what all (omega arith) next, all)

@@ -1,0 +1,43 @@
+-- What the acts so far say does not change when the log grows.
+use Rattle.std.proofs.Common.{◌≡◌, ℕ, ◌≤◌, List, [], ◌∷◌, ◌++◌, length, refl, ap, ◌∙◌, arith}
+use Rattle.std.specs.Prelude.{option_and_then}
+use Rattle.std.specs.Option.{option_map}
+use Rattle.tree_log.specs.declared.entry.Entry.{Entry}
+use Rattle.tree_log.specs.Log.{prefix}
+use Rattle.tree_log.specs.Tree.{tree_of}
+use Rattle.tree_log.specs.Urls.{url_of}
+use Rattle.tree_log.proofs.Places.{prefix_more}
+use Rattle.single_agent.specs.declared.session.Session.{Session}
+use Rattle.single_agent.specs.declared.act.Act.{Act}
+use Rattle.single_agent.specs.declared.act.Act.TheVariants.{Step, Task}
+use Rattle.single_agent.specs.NextAct.{length_of, newest_length, running, started_at, one_more, left_on, step_left, move_on, next_move}
+
+-- no act had heard of more than n entries
+abbrev pub Within : ℕ → List Act → Type 0
+Within n [] = Unit {0}
+Within n (a ∷ older) = (length_of a ≤ n) × Within n older
+
+pub newest_within : (n : ℕ) (acts : List Act) → Within n acts → newest_length acts ≤ n
+newest_within n [] h = omega arith
+newest_within n (a ∷ acts) h = h.0
+
+pub prefix_grown : (more log : List Entry) (acts : List Act) → Within (length log) acts → prefix (newest_length acts) (more ++ log) ≡ prefix (newest_length acts) log
+prefix_grown more log acts h = prefix_more more log (newest_length acts) (newest_within (length log) acts h)
+
+pub running_grown : (more log : List Entry) (acts : List Act) → Within (length log) acts → running (more ++ log) acts ≡ running log acts
+unfolding running
+running_grown more log [] h = refl
+running_grown more log (Task at kind place ∷ older) h = ap (λ (l : List Entry). started_at l place) (prefix_more more log at h.0)
+running_grown more log (Step at doc point op answer ∷ older) h = ap (option_map one_more) (running_grown more log older h.1)
+
+pub left_grown : (s : Session) (more log : List Entry) (acts : List Act) → Within (length log) acts → step_left s (more ++ log) acts ≡ step_left s log acts
+unfolding step_left
+left_grown s more log acts h =
+    ap (λ (p : List Entry). option_and_then (left_on s (tree_of p) (url_of p)) (running (more ++ log) acts)) (prefix_grown more log acts h)
+    ∙ ap (option_and_then (left_on s (tree_of (prefix (newest_length acts) log)) (url_of (prefix (newest_length acts) log)))) (running_grown more log acts h)
+
+pub move_grown : (s : Session) (more log : List Entry) (acts : List Act) → Within (length log) acts → next_move s (more ++ log) acts ≡ next_move s log acts
+unfolding next_move
+move_grown s more log acts h =
+    ap (λ (p : List Entry). move_on (tree_of p) (step_left s (more ++ log) acts)) (prefix_grown more log acts h)
+    ∙ ap (move_on (tree_of (prefix (newest_length acts) log))) (left_grown s more log acts h)

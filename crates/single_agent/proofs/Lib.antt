@@ -1,0 +1,5 @@
+pub mod Grown
+pub mod Legal
+pub mod Played
+pub mod Determined
+pub mod Admitted

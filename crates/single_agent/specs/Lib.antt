@@ -1,0 +1,10 @@
+pub mod Session
+pub mod NextTask
+pub mod WindowAccess
+pub mod StepAnswer
+pub mod NextAct
+pub mod LegalLog
+pub mod LegalRecord
+pub mod Turns
+pub mod RecordText
+pub mod Examples
