@@ -1,0 +1,2 @@
+mod LogLines
+pub mod RecordLines

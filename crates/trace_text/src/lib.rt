@@ -1,0 +1,14 @@
+//! The texts that a run of a session prints: its log, the record of each renderer, and the line of its status.
+//!
+//! Each is exactly what the definitions say, byte by byte.
+#![tactic(auto)]
+
+mod log_lines;
+mod record_lines;
+mod status;
+#[cfg(test)]
+mod tests;
+
+pub use log_lines::log_text;
+pub use record_lines::record_text;
+pub use status::{Status, status_text};
