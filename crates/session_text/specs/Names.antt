@@ -1,0 +1,37 @@
+-- How the fields of a session text are spelled.
+use Rattle.std.specs.Prelude.{ℕ, List, codes}
+use Rattle.session_text.specs.declared.name.Name.{Name}
+use Rattle.session_text.specs.declared.name.Name.TheVariants as name
+
+unfoldable pub text_of : Name → List ℕ
+text_of name.Renderers = codes "renderers"
+text_of name.Suffixes = codes "suffixes"
+text_of name.Start = codes "start"
+text_of name.Order = codes "order"
+text_of name.Lose = codes "lose"
+text_of name.Pages = codes "pages"
+text_of name.Renderer = codes "renderer"
+text_of name.Call = codes "call"
+text_of name.Served = codes "served"
+text_of name.Url = codes "url"
+text_of name.Script = codes "script"
+text_of name.Handler = codes "handler"
+text_of name.Keep = codes "keep"
+text_of name.Left = codes "left"
+text_of name.Right = codes "right"
+text_of name.Op = codes "op"
+text_of name.To = codes "to"
+text_of name.Value = codes "value"
+text_of name.Of = codes "of"
+text_of name.Key = codes "key"
+text_of name.User = codes "user"
+text_of name.Writable = codes "writable"
+text_of name.Enumerable = codes "enumerable"
+text_of name.Configurable = codes "configurable"
+text_of name.Args = codes "args"
+text_of name.Name = codes "name"
+text_of name.Sandbox = codes "sandbox"
+text_of name.Index = codes "index"
+text_of name.Target = codes "target"
+text_of name.Noopener = codes "noopener"
+text_of name.Rel = codes "rel"
