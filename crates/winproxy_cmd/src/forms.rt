@@ -111,6 +111,7 @@ pub fn command<S: Source, K: Sink>(
     ensures run { IsRun result → IsPlayWord (map string_bytes words.now) }
     ensures usage { result ≡ Status.Usage → IsPlayWord (map string_bytes words.now) → ⊥ }
     ensures else_usage { (IsPlayWord (map string_bytes words.now) → ⊥) → (result ≡ Status.Usage) ⊎ (result ≡ Status.Write) }
+    ensures unread { (IsPlayWord (map string_bytes words.now) → ⊥) → S.left source.new ≡ S.left source.old }
     ensures session { result ≡ Status.Session → IsPlayWord (map string_bytes words.now) × IfSome (S.left source.old) IsRefused }
     ensures read { result ≡ Status.Read → IsPlayWord (map string_bytes words.now) × Rose (S.faults source.old) (S.faults source.new) }
     ensures write { result ≡ Status.Write → Rose (K.faults sink.old) (K.faults sink.new) }
