@@ -9,7 +9,7 @@ use Rattle.tree_log.specs.declared.entry.Load.{Load}
 use Rattle.tree_log.specs.declared.entry.What.{What}
 use Rattle.tree_log.specs.declared.entry.What.TheVariants.{Open, Frame, Begin}
 use Rattle.tree_log.specs.Facts.{at, or_else, Birth, bears, bears_load, docs_after, navs_after, groups_after}
-use Rattle.tree_log.specs.Tree.{Tree, tree_of, after, tree_of_step, nav_of}
+use Rattle.tree_log.specs.Tree.{Tree, tree_of, after, tree_of_step, nav_of, home_of}
 use Rattle.tree_log.specs.Admits.{has, is_next, is_next_load, admits_what, admits, AreAdmitted}
 
 -- TESTS
@@ -89,11 +89,12 @@ born_stays t e d h lt = ap (λ b. unwrap_or b (t.doc d).born) (none_born t e.by 
 
 -- THE LOADS OF A LOG
 
--- the document of a load is there, and was made for its navigable
+-- the document of a load is there, was made for its navigable, and has its home
 pub record StandsFor (t : Tree) (nav : ℕ) (load : Load) : Type 0 where
   pub doc : load.doc < t.docs
   pub nav_there : nav < t.navs
   pub made_for : nav_of t load.doc ≡ nav
+  pub home : home_of t load.doc ≡ load.home
 
 abbrev pub StandsIfAny : Tree → ℕ → Option Load → Type 0
 StandsIfAny t nav None = Unit {0}
@@ -118,6 +119,7 @@ stands_later t e nav load h s =
       doc = omega (arith, s.doc);
       nav_there = omega (arith, s.nav_there);
       made_for = ap (λ (b : Birth). b.nav) (born_stays t e load.doc h s.doc) ∙ s.made_for;
+      home = ap (λ (b : Birth). b.home) (born_stays t e load.doc h s.doc) ∙ s.home;
     }
 
 any_later : (t : Tree) (e : Entry) (nav : ℕ) (load : Option Load) → admits t e ≡ true → StandsIfAny t nav load → StandsIfAny (after t e) nav load
@@ -150,6 +152,7 @@ makes_both t by actor w nav doc initial load doc_is load_is nav_is docs navs bea
       doc = omega arith;
       nav_there = omega arith;
       made_for = ap (λ (b : Option Birth). (unwrap_or b (t.doc load.doc).born).nav) none;
+      home = ap (λ (b : Option Birth). (unwrap_or b (t.doc load.doc).born).home) none;
     }
 
 begins_there : (t : Tree) (by actor : Option ℕ) (nav : ℕ) (load : Load) → load.doc ≡ t.docs → nav < t.navs → StandsFor (after t (record { by = by; actor = actor; what = Begin nav load })) nav load
@@ -160,6 +163,7 @@ begins_there t by actor nav load doc_is there =
       doc = omega arith;
       nav_there = there;
       made_for = ap (λ (b : Option Birth). (unwrap_or b (t.doc load.doc).born).nav) made;
+      home = ap (λ (b : Option Birth). (unwrap_or b (t.doc load.doc).born).home) made;
     }
 
 pub what_admitted : (t : Tree) (e : Entry) → admits t e ≡ true → admits_what t e.by e.actor e.what ≡ true

@@ -1,4 +1,5 @@
--- Whether an entry can follow a log: what it names is there, what it makes has the next numbers, and who made it may.
+-- Whether an entry can follow a log: what it names is there, what it makes has the next numbers, and who made it may. This
+-- project's own.
 use Rattle.std.specs.Prelude.{ℕ, ◌+◌, List, [], ◌∷◌, IsTrue, Option, Some, None, Bool, true, false, not, ◌&&◌, ◌||◌, ◌==◌, nat_lt}
 use Rattle.tree_log.specs.declared.entry.Entry.{Entry}
 use Rattle.tree_log.specs.declared.entry.Load.{Load}

@@ -1,4 +1,5 @@
--- What is shown of a log to one who may see only some documents: no URL and no message of any other.
+-- What is shown of a log to one who may see only some documents: no URL and no message of any other. This project's own, so
+-- that what the standard hides from other origins can be kept from their renderers.
 use Rattle.std.specs.Prelude.{ℕ, List, [], ◌∷◌, Option, Some, None, Bool, false, not, filter, codes, ◌==◌, ◌&&◌, if◌then◌else◌}
 use Rattle.std.specs.List.{list_any, range_with_len}
 use Rattle.origin_core.specs.Origin.{blank_text, is_same_origin_domain}

@@ -1,4 +1,4 @@
--- What each entry of a log says of a navigable or of a document. The newest entry that says something decides.
+-- What each entry of a log says of a navigable or of a document (HTML Standard, 7.3). The newest entry that says something decides.
 use Rattle.std.specs.Prelude.{ℕ, ◌+◌, List, [], ◌∷◌, ◌++◌, Option, Some, None, Bool, true, false, ◌||◌, ◌==◌, if◌then◌else◌, unwrap_or, is_some}
 use Rattle.tree_log.specs.declared.entry.Entry.{Entry}
 use Rattle.tree_log.specs.declared.entry.Load.{Load}

@@ -1,4 +1,5 @@
--- The renderer that is to hold a new document: one for all documents of one group and site.
+-- The renderer that is to hold a new document: one for all documents of one group and site, as for the agent clusters that are
+-- keyed by sites (HTML Standard, 7.3.2.3). Which renderer it is, is this project's own.
 use Rattle.std.specs.Prelude.{ℕ, ◌%◌, List, [], ◌∷◌, length, find, Option, Some, None, Bool, false, ◌==◌, ◌&&◌, bytes_eq, if◌then◌else◌}
 use Rattle.std.specs.List.{list_any}
 use Rattle.origin_core.specs.declared.site.Site.{Site}

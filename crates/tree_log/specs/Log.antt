@@ -1,4 +1,4 @@
--- The log: a list of entries, the newest first. The place of an entry is the number of entries before it.
+-- The log, this project's own: a list of entries, the newest first. The place of an entry is the number of entries before it.
 use Rattle.std.specs.Prelude.{ℕ, List, [], ◌∷◌, length, Option, Some, None, Bool, false, nat_le, ◌==◌, if◌then◌else◌, filter}
 use Rattle.tree_log.specs.declared.entry.Entry.{Entry}
 

@@ -1,4 +1,4 @@
--- How a log prints: a line for each entry, the oldest first.
+-- How a log prints: a line for each entry, the oldest first. The texts are this project's own.
 use Rattle.std.specs.Prelude.{ℕ, List, [], ◌∷◌, ◌++◌, length, Option, Some, None, codes, decimal}
 use Rattle.json.specs.Print.{quoted}
 use Rattle.plain_data.specs.DataText.{data_text}

@@ -1,4 +1,4 @@
--- What the type of each origin and URL in an entry promises. A definition's entry may hold any text there.
+-- What the type of each origin and URL in an entry promises; this project's own. A definition's entry may hold any text there.
 use Rattle.std.specs.Prelude.{List, All, IfSome, ⊤}
 use Rattle.origin_core.specs.Origin.{IsOrigin}
 use Rattle.origin_core.specs.Page.{IsPageText}

@@ -1,4 +1,4 @@
--- The URL of a document: that of the newest load or fragment navigation of it.
+-- The URL of a document: that of the newest load or fragment navigation of it (DOM Standard, 4.5, a document's URL).
 use Rattle.std.specs.Prelude.{ℕ, List, ◌∷◌, Option, Some, None, codes, unwrap_or, ◌≡◌, refl}
 use Rattle.tree_log.specs.declared.entry.Entry.{Entry}
 use Rattle.tree_log.specs.declared.entry.Load.{Load}

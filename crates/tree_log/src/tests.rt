@@ -52,6 +52,7 @@ fn framed(rt: &impl Abort, alloc: Global) -> Result<Log, AllocError> {
             what: open,
         },
     )?;
+    assert_eq!(rt; log.len(), 1);
     let commit = What::Commit {
         nav: 0,
         doc: 1,
@@ -73,7 +74,7 @@ fn framed(rt: &impl Abort, alloc: Global) -> Result<Log, AllocError> {
         origin: load(rt, alloc, 1, 0, "https://a.test/").origin,
         name: Text::copy_of(alloc, "")?,
         flags: Flags::from_bits(0),
-        load: Some(load(rt, alloc, 3, 1, "https://b.test/x")),
+        load: Some(load(rt, alloc, 3, 1, "https://b.test/")),
     };
     push(
         rt,

@@ -111,6 +111,11 @@ fn children<V: View>(rt: &impl Abort, view: &V, doc: u32) -> (u32, Option<u32>, 
     )
 }
 
+fn is_active<V: View>(rt: &impl Abort, view: &V, doc: u32) -> bool {
+    assert!(rt; doc < view.docs());
+    view.is_active(doc)
+}
+
 fn alike<V: View>(rt: &impl Abort, view: &V, a: u32, b: u32) -> bool {
     assert!(rt; a < view.docs());
     assert!(rt; b < view.docs());
@@ -122,6 +127,7 @@ fn reads_as_the_log_grows(rt: HostRuntime) -> Result<(), Fail> {
     let alloc = rt.alloc();
     let mut view = framed(&rt, alloc)?;
     assert_eq!(rt; view.len(), 3);
+    assert!(rt; is_active(&rt, &view, 1) && !is_active(&rt, &view, 0));
     assert_eq!(rt; seen(&rt, &view, 0), (1, false, None, Some(0)));
     assert_eq!(rt; seen(&rt, &view, 1), (2, false, Some(0), Some(0)));
     assert_eq!(rt; children(&rt, &view, 1), (1, Some(1), Some(1)));
