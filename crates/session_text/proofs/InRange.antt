@@ -1,6 +1,6 @@
 -- A session that a text is, is in range.
-use Rattle.std.proofs.Common.{◌≡◌, ◌≤◌, ℕ, List, [], ◌∷◌, ◌++◌, length, All, true, false, Some, None, Ok, Err, refl, arith}
-use Rattle.std.specs.Prelude.{Option, nat_le, ◌&&◌, option_and_then, IfOk, is_some}
+use Rattle.std.proofs.Common.{◌≡◌, ◌⊎◌, inl, inr, ◌≤◌, ◌<◌, ◌-◌, ℕ, List, [], ◌∷◌, ◌++◌, length, All, true, false, Some, None, Ok, Err, refl, arith}
+use Rattle.std.specs.Prelude.{Option, IfOk, is_some}
 use Rattle.std.specs.List.{IsDistinct}
 use Rattle.std.specs.Cmp.{IsEquivalence}
 use Rattle.std.specs.Cmp.Lexicographic.{nat_list_eq_equiv}
@@ -9,22 +9,23 @@ use Rattle.std.proofs.lemmas.Map.Keys.{IsDistinct-push}
 use Rattle.origin_core.specs.Page.{read_page, IsPageText, is_web_text, fragment_of}
 use Rattle.single_agent.specs.declared.session.Session.{Session}
 use Rattle.single_agent.specs.declared.session.Page.{Page}
-use Rattle.session_text.specs.declared.name.Name.TheVariants as its
-use Rattle.session_text.specs.Refusing.{Outcome, wrong_kind, out_of_range, Gives}
-use Rattle.session_text.specs.Reading.{Json, or_refuse, natural, whole, text, list_of, field, field_or, an_object, no_others}
-use Rattle.session_text.specs.Session.{url_from, web_url, has_url, page_url, page_read, session_read}
-use Rattle.session_text.specs.Range.{IsStep, has_same_url, IsInRange}
-use Rattle.session_text.proofs.StepRange.{steps, script_length, script_steps}
-use Rattle.session_text.proofs.Read.{bind_ok, then_ok, else_ok, both, field_ok, field_or_ok, each_keeps, list_ok, IsRead}
-use Rattle.std.proofs.lemmas.Bool.Decides.{nat_tests}
-use Rattle.serde_json.specs.Find.{as_integer, as_number}
+use Rattle.single_agent.specs.declared.step.Step.{Step}
+use Rattle.session_reading.specs.declared.name.Name.TheVariants as its
+use Rattle.session_reading.specs.Refusing.{Outcome, Gives}
+use Rattle.session_reading.specs.Reading.{Json, whole, text, any_list, list_of, field, an_object, no_others}
+use Rattle.session_reading.proofs.Read.{bind_ok, then_ok, else_ok, field_ok, field_or_ok, whole_ok, each_keeps, list_ok, any_list_ok, IsRead}
+use Rattle.session_text.specs.Session.{url_from, web_url, has_url, page_url, is_suffix, suffix, steps, steps_at, page_read, renderer_of, suffixes_read, order_read, session_read}
+use Rattle.session_text.specs.Range.{AreSteps, IsSuffix, has_same_url, IsInRange}
+use Rattle.session_text.proofs.StepRange.{steps_ok, no_steps}
+
+-- URLS
 
 web_url_ok : (j : Json) (url : List ℕ) → web_url j ≡ Ok url → is_web_text url ≡ true
 unfolding web_url
 web_url_ok j url e =
     let s = bind_ok (text j) _ url e in
     let u = bind_ok (url_from (read_page None s.0)) _ url s.2 in
-    let web = then_ok (is_web_text u.0) (Ok u.0) url u.2 in
+    let web = then_ok (is_web_text u.0) (Ok u.0) _ url u.2 in
     let same : u.0 ≡ url = let kept = web.1 in cc in
     rw (← same) web.0
 
@@ -41,32 +42,44 @@ page_url_ok : (before : List Page) (j : Json) (url : List ℕ) → page_url befo
 unfolding page_url
 page_url_ok before j url e =
     let u = bind_ok (web_url j) _ url e in
-    let bare = else_ok (is_some (fragment_of u.0)) _ url u.2 in
-    let new = else_ok (has_url before u.0) (Ok u.0) url bare.1 in
+    let bare = else_ok (is_some (fragment_of u.0)) _ _ url u.2 in
+    let new = else_ok (has_url before u.0) (Ok u.0) _ url bare.1 in
     let same : u.0 ≡ url = let kept = new.1 in cc in
     rw (← same) (record { web = web_url_ok j u.0 u.1; fragment = none_there (fragment_of u.0) bare.0; absent = new.0 })
+
+-- PAGES
 
 -- what the readers tell of a page
 record IsReadPage (page : Page) : Type 0 where
   web : is_web_text page.url ≡ true
   fragment : fragment_of page.url ≡ None
-  script : length page.script ≤ 200
-  steps : All IsStep page.script
+  script : AreSteps page.script
+  handler : AreSteps page.handler
+
+steps_held : (found : List Step) → ([] ≡ found) ⊎ ((held : Json) × (steps held ≡ Ok found)) → AreSteps found
+steps_held found (inl same) = rw (← same) no_steps
+steps_held found (inr held) = steps_ok held.0 found held.1
 
 page_ok : (before : List Page) (j : Json) (page : Page) → page_read before j ≡ Ok page → IsReadPage page × (has_url before page.url ≡ false)
-unfolding page_read
+unfolding page_read steps_at
 page_ok before j page e =
     let object = bind_ok (an_object j) _ page e in
     let url = bind_ok (field its.Url (page_url before) j) _ page object.2 in
-    let script = bind_ok (field_or its.Script [] steps j) _ page url.2 in
-    let none = bind_ok (no_others (its.Url ∷ its.Script ∷ []) j) _ page script.2 in
+    let script = bind_ok (steps_at its.Script j) _ page url.2 in
+    let handler = bind_ok (steps_at its.Handler j) _ page script.2 in
+    let others = bind_ok (no_others (its.Url ∷ its.Script ∷ its.Handler ∷ []) j) _ page handler.2 in
     let held = field_ok its.Url (page_url before) j url.0 url.1 in
-    let read = field_or_ok its.Script [] steps j script.0 script.1 in
     let new = page_url_ok before held.0 url.0 held.1 in
-    let same : record { url = url.0; script = script.0 } ≡ page = let kept = none.2 in cc in
-    rw (← same) (record { web = new.web; fragment = new.fragment; script = script_length script.0 read; steps = script_steps script.0 read }, new.absent)
-
--- PAGES
+    let same : record { url = url.0; script = script.0; handler = handler.0 } ≡ page = let kept = others.2 in cc in
+    rw (← same) (
+      record {
+        web = new.web;
+        fragment = new.fragment;
+        script = steps_held script.0 (field_or_ok its.Script [] steps j script.0 script.1);
+        handler = steps_held handler.0 (field_or_ok its.Handler [] steps j handler.0 handler.1);
+      },
+      new.absent,
+    )
 
 same_url_laws : IsEquivalence has_same_url
 same_url_laws = record {
@@ -91,59 +104,92 @@ no_pages = (All-nil IsReadPage, tt)
 pages_ok : (pages : List Page) → IsRead 0 1000 page_read pages → AreFine pages
 pages_ok pages read = each_keeps AreFine page_read one_more [] read.items.0 pages no_pages read.items.1
 
+-- LISTS OF A SESSION
+
 abbrev IsWeb : List ℕ → Type 0
 IsWeb url = is_web_text url ≡ true
 
-start_ok : (start : List (List ℕ)) → IsRead 1 1 (λ _. web_url) start → All IsWeb start
+start_ok : (start : List (List ℕ)) → IsRead 1 64 (λ _. web_url) start → All IsWeb start
 start_ok start read =
     each_keeps (All IsWeb) (λ _. web_url) (λ before j url fine e. All-push IsWeb before url fine (web_url_ok j url e))
     [] read.items.0 start (All-nil IsWeb) read.items.1
 
--- SESSIONS
+suffix_ok : (j : Json) (s : List ℕ) → suffix j ≡ Ok s → IsSuffix s
+unfolding suffix
+suffix_ok j s e =
+    let held = bind_ok (text j) _ s e in
+    let fits = then_ok (is_suffix held.0) (Ok held.0) _ s held.2 in
+    let same : held.0 ≡ s = let kept = fits.1 in cc in
+    rw (← same) fits.0
 
-one_ok : (j : Json) (n : ℕ) → whole 1 1 j ≡ Ok n → n ≡ 1
-unfolding whole
-one_ok j n e =
-    let z = bind_ok (or_refuse (option_and_then as_integer (as_number j)) wrong_kind) _ n e in
-    let m = bind_ok (or_refuse (natural z.0) out_of_range) _ n z.2 in
-    let fits = then_ok (nat_le 1 m.0 && nat_le m.0 1) (Ok m.0) n m.2 in
-    let within = both (nat_le 1 m.0) (nat_le m.0 1) fits.0 in
-    let same : m.0 ≡ n = let kept = fits.1 in cc in
-    let one : m.0 ≡ 1 = grind (arith, nat_tests, within.0, within.1) in
-    cc
+suffixes_ok : (found : List (List ℕ)) → ([] ≡ found) ⊎ ((held : Json) × (any_list (λ _. suffix) held ≡ Ok found)) → All IsSuffix found
+suffixes_ok found (inl same) = rw (← same) (All-nil IsSuffix)
+suffixes_ok found (inr held) =
+    let read = any_list_ok (λ _. suffix) held.0 found held.1 in
+    each_keeps (All IsSuffix) (λ _. suffix) (λ before j s fine e. All-push IsSuffix before s fine (suffix_ok j s e))
+    [] read.0 found (All-nil IsSuffix) read.1
+
+abbrev IsBelow : ℕ → ℕ → Type 0
+IsBelow renderers r = r < renderers
+
+-- the turns that come first
+record IsOrder (renderers : ℕ) (found : List ℕ) : Type 0 where
+  few : length found ≤ 20000
+  all : All (IsBelow renderers) found
+
+below_ok : (renderers : ℕ) (j : Json) (r : ℕ) → 1 ≤ renderers → renderer_of renderers j ≡ Ok r → r < renderers
+below_ok renderers j r some e = let within = whole_ok 0 (renderers - 1) j r e in omega (arith, within.1)
+
+order_ok : (renderers : ℕ) (found : List ℕ) → 1 ≤ renderers → ([] ≡ found) ⊎ ((held : Json) × (list_of 0 20000 (λ _. renderer_of renderers) held ≡ Ok found)) → IsOrder renderers found
+order_ok renderers found some (inl same) = rw (← same) (record { few = omega arith; all = All-nil (IsBelow renderers) })
+order_ok renderers found some (inr held) =
+    let read = list_ok 0 20000 (λ _. renderer_of renderers) held.0 found held.1 in
+    record {
+      few = read.at_most;
+      all = each_keeps (All (IsBelow renderers)) (λ _. renderer_of renderers) (λ before j r fine e. All-push (IsBelow renderers) before r fine (below_ok renderers j r some e)) [] read.items.0 found (All-nil (IsBelow renderers)) read.items.1;
+    }
+
+-- SESSIONS
 
 -- what the readers tell of a session
 record IsReadSession (s : Session) : Type 0 where
-  renderers : s.renderers ≡ 1
-  one_start : length s.start ≡ 1
+  some_renderer : 1 ≤ s.renderers
+  renderers : s.renderers ≤ 16
+  suffixes : All IsSuffix s.suffixes
+  some_start : 1 ≤ length s.start
+  starts : length s.start ≤ 64
   start : All IsWeb s.start
-  order : s.order ≡ []
+  order : IsOrder s.renderers s.order
   most : length s.pages ≤ 1000
   pages : All IsReadPage s.pages
   apart : IsDistinct has_same_url s.pages
 
 session_ok : (j : Json) (s : Session) → session_read j ≡ Ok s → IsReadSession s
-unfolding session_read
+unfolding session_read suffixes_read order_read
 session_ok j s e =
     let object = bind_ok (an_object j) _ s e in
-    let renderers = bind_ok (field its.Renderers (whole 1 1) j) _ s object.2 in
-    let start = bind_ok (field its.Start (list_of 1 1 (λ _. web_url)) j) _ s renderers.2 in
-    let pages = bind_ok (field its.Pages (list_of 0 1000 page_read) j) _ s start.2 in
-    let none = bind_ok (no_others (its.Renderers ∷ its.Start ∷ its.Pages ∷ []) j) _ s pages.2 in
-    let the_number = field_ok its.Renderers (whole 1 1) j renderers.0 renderers.1 in
-    let the_start = field_ok its.Start (list_of 1 1 (λ _. web_url)) j start.0 start.1 in
+    let renderers = bind_ok (field its.Renderers (whole 1 16) j) _ s object.2 in
+    let suffixes = bind_ok (suffixes_read j) _ s renderers.2 in
+    let start = bind_ok (field its.Start (list_of 1 64 (λ _. web_url)) j) _ s suffixes.2 in
+    let order = bind_ok (order_read renderers.0 j) _ s start.2 in
+    let pages = bind_ok (field its.Pages (list_of 0 1000 page_read) j) _ s order.2 in
+    let others = bind_ok (no_others (its.Renderers ∷ its.Suffixes ∷ its.Start ∷ its.Order ∷ its.Pages ∷ []) j) _ s pages.2 in
+    let the_number = field_ok its.Renderers (whole 1 16) j renderers.0 renderers.1 in
+    let within = whole_ok 1 16 the_number.0 renderers.0 the_number.1 in
+    let the_start = field_ok its.Start (list_of 1 64 (λ _. web_url)) j start.0 start.1 in
+    let starts = list_ok 1 64 (λ _. web_url) the_start.0 start.0 the_start.1 in
     let the_pages = field_ok its.Pages (list_of 0 1000 page_read) j pages.0 pages.1 in
-    let starts = list_ok 1 1 (λ _. web_url) the_start.0 start.0 the_start.1 in
     let found = list_ok 0 1000 page_read the_pages.0 pages.0 the_pages.1 in
     let fine = pages_ok pages.0 found in
-    let same : record { renderers = renderers.0; start = start.0; order = []; pages = pages.0 } ≡ s = let kept = none.2 in cc in
-    let least = starts.at_least in
-    let most = starts.at_most in
+    let same : record { renderers = renderers.0; suffixes = suffixes.0; start = start.0; order = order.0; pages = pages.0 } ≡ s = let kept = others.2 in cc in
     rw (← same) (record {
-      renderers = one_ok the_number.0 renderers.0 the_number.1;
-      one_start = omega arith;
+      some_renderer = within.0;
+      renderers = within.1;
+      suffixes = suffixes_ok suffixes.0 (field_or_ok its.Suffixes [] (any_list (λ _. suffix)) j suffixes.0 suffixes.1);
+      some_start = starts.at_least;
+      starts = starts.at_most;
       start = start_ok start.0 starts;
-      order = refl;
+      order = order_ok renderers.0 order.0 within.0 (field_or_ok its.Order [] (list_of 0 20000 (λ _. renderer_of renderers.0)) j order.0 order.1);
       most = found.at_most;
       pages = fine.0;
       apart = fine.1;
@@ -155,18 +201,23 @@ HasPageText page = IsPageText page.url
 
 in_range : (s : Session) → IsReadSession s → All IsPageText s.start → All HasPageText s.pages → IsInRange s
 in_range s read starts pages = record {
+  some_renderer = read.some_renderer;
   renderers = read.renderers;
-  one_start = read.one_start;
+  suffixes = read.suffixes;
+  some_start = read.some_start;
+  starts = read.starts;
   start = λ k d h. record { page = starts k d h; web = read.start k d h };
-  order = read.order;
+  turns = read.order.few;
+  order = read.order.all;
   most = read.most;
   pages = λ k d h. record {
     url = record { page = pages k d h; web = (read.pages k d h).web };
     fragment = (read.pages k d h).fragment;
     script = (read.pages k d h).script;
-    steps = (read.pages k d h).steps;
+    handler = (read.pages k d h).handler;
   };
   apart = read.apart;
+  built = λ k d h. record { script = (read.pages k d h).script.built; handler = (read.pages k d h).handler.built };
 }
 
 pub range_of_gives : (result : Outcome Session) (j : Json) → Gives result (session_read j) → IfOk result (λ s. All IsPageText s.start) → IfOk result (λ s. All HasPageText s.pages) → IfOk result IsInRange

@@ -1,5 +1,4 @@
-pub mod Lists
-pub mod Top
-pub mod Read
-pub mod StepRange
+pub mod Counting
 pub mod InRange
+pub mod StepRange
+pub mod Top

@@ -5,9 +5,9 @@ use Rattle.std.specs.Str.{IsUtf8, is_utf8}
 use Rattle.std.proofs.lemmas.Str.{is_utf8-from_IsUtf8, IsUtf8-from_is_utf8}
 use Rattle.std.proofs.Common.{Err}
 use Rattle.serde_json.specs.Read as serde
-use Rattle.session_text.specs.declared.error.SessionError.TheVariants.{NotJson}
-use Rattle.session_text.specs.Refusing.{◌>>=◌}
-use Rattle.session_text.specs.Reading.{Json, or_refuse}
+use Rattle.session_reading.specs.declared.error.SessionError.TheVariants.{NotJson}
+use Rattle.session_reading.specs.Refusing.{◌>>=◌}
+use Rattle.session_reading.specs.Reading.{Json, or_refuse}
 use Rattle.session_text.specs.Session.{session_read, session_of}
 
 pub session_of_json : (bytes : List ℕ) (j : Json) → IsUtf8 bytes → serde.read bytes ≡ Some j → session_of bytes ≡ session_read j

@@ -1,27 +1,30 @@
-//! Sessions as JSON texts: which session a text is, or why it is none.
+//! Sessions as JSON texts: which session a text is, or the first refusal with the path to its place.
 //!
-//! A session says how many renderers there are, which URLs the start windows load and which pages exist, each
-//! with the script that its document runs. [`read_session`] reads one from the bytes of a JSON text:
+//! A session says how many renderers there are, which URLs the start windows load, whose turns come first and which
+//! pages exist, each with the script that its document runs and the handler that runs at each message.
+//! [`read_session`] reads one from the bytes of a JSON text:
 //!
 //! ```json
 //! {"renderers":1,"start":["https://a.test/"],"pages":[{"url":"https://a.test/","script":[{"op":"get","of":"window","key":"closed"}]}]}
 //! ```
 //!
-//! `specs/Session` defines the session that a text is, with the readers of `specs/Reading` and `specs/Steps`;
-//! `specs/Range` says what holds of each session that is read. JSON is read with the crate `serde_json`: of two
-//! equal names in an object the last one counts, and an object's members have no order.
+//! `specs/Session` and `specs/Steps` define the session that a text is, a line for each field, with the readers of the
+//! crate `session_reading`; `specs/Range` says what holds of each session that is read, and `specs/Summary` what
+//! [`summary_text`] says of it. JSON is read with the crate `serde_json`: of two equal names in an object the last one
+//! counts, and an object's members have no order.
 #![tactic(auto)]
 
-mod error;
-mod name;
 mod page;
-mod reading;
 mod session;
 mod step;
+mod summary;
+mod value;
 
-pub use error::SessionError;
+pub use script_steps::built;
 pub use session::read_session;
-pub use single_agent::{Page, Session, Step};
+pub use session_reading::{Path, Segment, SessionError, path_text, refusal_text};
+pub use single_agent::{Operand, Page, Session, Step};
+pub use summary::summary_text;
 
 #[cfg(test)]
 mod tests;

@@ -2,29 +2,29 @@
 ghost use Rattle.std.specs.Prelude.{◌≡◌, is_some, None, IfOk};
 ghost use Rattle.origin_core.specs.Page.{fragment_of, read_page, IsPageText};
 ghost use Rattle.serde_json.specs.View.{view};
-ghost use Rattle.session_text.specs.Refusing.{Gives};
+ghost use Rattle.session_reading.specs.Refusing.{Gives};
 ghost use Rattle.session_text.specs.Session as spec;
 
-use crate::error::{SessionError, out_of_range, wrong_kind};
-use crate::name::Name;
-use crate::reading::{Reads, ReadsItem, field, field_or, no_others, text};
-use crate::step::AScript;
+use crate::step::Steps;
 use origin_core::{PageUrl, UrlError, read_url};
 use plain_data::Items;
 use serde_json::Value;
-use single_agent::Page;
+use session_reading::{
+    Name, Reads, ReadsItem, SessionError, field, field_or, no_others, out_of_range, text,
+    wrong_kind,
+};
+use single_agent::{Page, Step};
 use std::alloc::Global;
 
 /// The http or https URL that the value is (URL Standard, section 4.4, without a base).
 #[tactic(auto, unfolding(crate::specs::Session::web_url))]
 pub(crate) fn web_url(alloc: Global, value: &Value) -> Result<PageUrl, SessionError>
-    ensures given { Gives result (spec.web_url (view value.now)) }
-    ensures page { IfOk result IsPageText }
+    ensures { Gives result (spec.web_url (view value.now)) }
 {
-    let text = text(value)?;
+    let text = text(alloc, value)?;
     let url = url_of(alloc, text)?;
     if !url.is_web() {
-        return Err(out_of_range());
+        return Err(out_of_range(alloc));
     }
     Ok(url)
 }
@@ -35,7 +35,7 @@ fn url_of(alloc: Global, text: &str) -> Result<PageUrl, SessionError>
     match read_url(alloc, text, None) {
         Ok(url) => Ok(url),
         Err(UrlError::NoMemory) => Err(SessionError::NoMemory),
-        Err(_) => Err(out_of_range()),
+        Err(_) => Err(out_of_range(alloc)),
     }
 }
 
@@ -50,16 +50,14 @@ impl<'a> Reads for NewUrl<'a> {
 
     ghost reads = { λ r. spec.page_url r.before.now };
 
-    ghost holds = { IsPageText };
-
     #[tactic(auto, unfolding(crate::specs::Session::page_url))]
     fn read(&self, alloc: Global, value: &Value) -> Result<PageUrl, SessionError> {
         let url = web_url(alloc, value)?;
         if has_fragment(&url) {
-            return Err(out_of_range());
+            return Err(out_of_range(alloc));
         }
         if has_url(self.before, url.as_str()) {
-            return Err(out_of_range());
+            return Err(out_of_range(alloc));
         }
         Ok(url)
     }
@@ -79,18 +77,37 @@ fn has_url(pages: &[Page], url: &str) -> bool
     pages.iter().any(|page| url == page.url.as_str())
 }
 
+// The steps of the field, which may be absent.
+#[tactic(auto, unfolding(crate::specs::Session::steps_at))]
+fn steps_at(alloc: Global, name: Name, value: &Value) -> Result<Items<Step>, SessionError>
+    ensures { Gives result (spec.steps_at name (view value.now)) }
+{
+    field_or(alloc, name, Items::new(alloc), &Steps, value)
+}
+
 #[tactic(auto, unfolding(crate::specs::Session::page_read))]
 fn page_of(alloc: Global, before: &[Page], value: &Value) -> Result<Page, SessionError>
-    ensures given { Gives result (spec.page_read before.now (view value.now)) }
-    ensures page { IfOk result (λ page. IsPageText page.url) }
+    ensures { Gives result (spec.page_read before.now (view value.now)) }
 {
     if !value.is_object() {
-        return Err(wrong_kind());
+        return Err(wrong_kind(alloc));
     }
     let url = field(alloc, Name::Url, &NewUrl { before }, value)?;
-    let script = field_or(alloc, Name::Script, Items::new(alloc), &AScript, value)?;
-    no_others(&[Name::Url, Name::Script], value)?;
-    Ok(Page { url, script })
+    let script = steps_at(alloc, Name::Script, value)?;
+    let handler = steps_at(alloc, Name::Handler, value)?;
+    no_others(alloc, &[Name::Url, Name::Script, Name::Handler], value)?;
+    Ok(Page {
+        url,
+        script,
+        handler,
+    })
+}
+
+// Tells what the type of a page's URL promises: reading its text gives just that text.
+pub(crate) fn tell_text(url: &PageUrl)
+    ensures { IsPageText url.now }
+{
+    let _text = url.as_str();
 }
 
 /// Reads a page of a session.
@@ -109,6 +126,8 @@ impl ReadsItem for APage {
         before: &[Page],
         value: &Value,
     ) -> Result<Page, SessionError> {
-        page_of(alloc, before, value)
+        let page = page_of(alloc, before, value)?;
+        tell_text(&page.url);
+        Ok(page)
     }
 }

@@ -1,35 +1,107 @@
 // Reader of sessions.
-ghost use Rattle.std.specs.Prelude.{◌≡◌, IfOk, All};
+ghost use Rattle.std.specs.Prelude.{◌≡◌, IfOk, All, true};
 ghost use Rattle.origin_core.specs.Page.{IsPageText};
 ghost use Rattle.serde_json.specs.View.{view};
+ghost use Rattle.session_reading.specs.Refusing.{Gives};
+ghost use Rattle.session_reading.specs.Reading as reading;
 ghost use Rattle.session_text.specs.Range.{IsInRange};
-ghost use Rattle.session_text.specs.Refusing.{Gives};
-ghost use Rattle.session_text.specs.Reading as reading;
 ghost use Rattle.session_text.specs.Session as spec;
 
-use crate::error::{SessionError, wrong_kind};
-use crate::name::Name;
-use crate::page::{APage, web_url};
-use crate::reading::{Reads, ReadsItem, field, list_of, no_others, whole};
-use origin_core::PageUrl;
+use crate::page::{APage, tell_text, web_url};
+use origin_core::{HostText, PageUrl};
 use plain_data::Items;
 use serde_json::Value;
+use session_reading::{
+    Name, Reads, ReadsItem, SessionError, any_list, field, field_or, list_of, no_others,
+    out_of_range, text, whole, wrong_kind,
+};
 use single_agent::{Page, Session};
 use std::alloc::Global;
 
-/// Reads the number of renderers, which is 1.
+/// Reads the number of renderers, from 1 to 16.
 struct Renderers;
 
 impl Reads for Renderers {
     type Out = u16;
 
-    ghost reads = { λ _. reading.whole 1 1 };
+    ghost reads = { λ _. reading.whole 1 16 };
 
-    fn read(&self, _alloc: Global, value: &Value) -> Result<u16, SessionError> {
-        match whole(1, 1, value) {
+    fn read(&self, alloc: Global, value: &Value) -> Result<u16, SessionError> {
+        match whole(alloc, 1, 16, value) {
             Ok(n) => Ok(n as u16),
             Err(e) => Err(e),
         }
+    }
+}
+
+/// Reads a public suffix.
+struct ASuffix;
+
+impl ReadsItem for ASuffix {
+    type Out = HostText;
+
+    ghost reads_item = { λ _ _. spec.suffix };
+
+    #[tactic(auto, unfolding(crate::specs::Session::suffix))]
+    fn read_item(
+        &self,
+        alloc: Global,
+        _before: &[HostText],
+        value: &Value,
+    ) -> Result<HostText, SessionError> {
+        let text = text(alloc, value)?;
+        if !is_suffix(text) {
+            return Err(out_of_range(alloc));
+        }
+        Ok(HostText::copy_of(alloc, text)?)
+    }
+}
+
+#[tactic(auto, unfolding(crate::specs::Session::is_suffix))]
+fn is_suffix(text: &str) -> bool
+    ensures { result ≡ spec.is_suffix text.now }
+{
+    text.len() <= 253 && has_labels(text.as_bytes())
+}
+
+// Whether the text is labels with single dots between them.
+#[tactic(auto, unfolding(crate::specs::Session::has_labels))]
+fn has_labels(bytes: &[u8]) -> bool
+    ensures { result ≡ spec.has_labels true bytes.now }
+{
+    let mut begins = true;
+    for byte in bytes {
+        if *byte == b'.' {
+            if begins {
+                return false;
+            }
+            begins = true;
+        } else {
+            if !is_label_byte(*byte) {
+                return false;
+            }
+            begins = false;
+        }
+    }
+    !begins
+}
+
+fn is_label_byte(byte: u8) -> bool
+    ensures { result ≡ spec.is_label_byte byte }
+{
+    (b'a' <= byte && byte <= b'z') || (b'0' <= byte && byte <= b'9') || byte == b'-'
+}
+
+/// Reads the public suffixes.
+struct Suffixes;
+
+impl Reads for Suffixes {
+    type Out = Items<HostText>;
+
+    ghost reads = { λ _. reading.any_list (λ _. spec.suffix) };
+
+    fn read(&self, alloc: Global, value: &Value) -> Result<Items<HostText>, SessionError> {
+        any_list(alloc, &ASuffix, value)
     }
 }
 
@@ -49,22 +121,67 @@ impl ReadsItem for StartUrl {
         _before: &[PageUrl],
         value: &Value,
     ) -> Result<PageUrl, SessionError> {
-        web_url(alloc, value)
+        let url = web_url(alloc, value)?;
+        tell_text(&url);
+        Ok(url)
     }
 }
 
-/// Reads the URLs that the start windows load: just one.
+/// Reads the URLs that the start windows load, from 1 to 64.
 struct Start;
 
 impl Reads for Start {
     type Out = Items<PageUrl>;
 
-    ghost reads = { λ _. reading.list_of 1 1 (λ _. spec.web_url) };
+    ghost reads = { λ _. reading.list_of 1 64 (λ _. spec.web_url) };
 
     ghost holds = { All IsPageText };
 
     fn read(&self, alloc: Global, value: &Value) -> Result<Items<PageUrl>, SessionError> {
-        list_of(alloc, 1, 1, &StartUrl, value)
+        list_of(alloc, 1, 64, &StartUrl, value)
+    }
+}
+
+/// Reads the number of a renderer, below that of all.
+#[derive(Drop)]
+struct ARenderer {
+    renderers: u16,
+}
+
+impl ReadsItem for ARenderer {
+    type Out = u16;
+
+    ghost reads_item = { λ r _. spec.renderer_of r.renderers };
+
+    fn read_item(
+        &self,
+        alloc: Global,
+        _before: &[u16],
+        value: &Value,
+    ) -> Result<u16, SessionError> {
+        match whole(alloc, 0, u64::from(self.renderers).saturating_sub(1), value) {
+            Ok(n) => Ok(n as u16),
+            Err(e) => Err(e),
+        }
+    }
+}
+
+/// Reads whose turns come first, at most 20,000.
+#[derive(Drop)]
+struct Order {
+    renderers: u16,
+}
+
+impl Reads for Order {
+    type Out = Items<u16>;
+
+    ghost reads = { λ o. reading.list_of 0 20000 (λ _. spec.renderer_of o.renderers) };
+
+    fn read(&self, alloc: Global, value: &Value) -> Result<Items<u16>, SessionError> {
+        let item = ARenderer {
+            renderers: self.renderers,
+        };
+        list_of(alloc, 0, 20000, &item, value)
     }
 }
 
@@ -83,6 +200,26 @@ impl Reads for Pages {
     }
 }
 
+#[tactic(auto, unfolding(crate::specs::Session::suffixes_read))]
+fn suffixes_of(alloc: Global, value: &Value) -> Result<Items<HostText>, SessionError>
+    ensures { Gives result (spec.suffixes_read (view value.now)) }
+{
+    field_or(alloc, Name::Suffixes, Items::new(alloc), &Suffixes, value)
+}
+
+#[tactic(auto, unfolding(crate::specs::Session::order_read))]
+fn order_of(alloc: Global, renderers: u16, value: &Value) -> Result<Items<u16>, SessionError>
+    ensures { Gives result (spec.order_read renderers (view value.now)) }
+{
+    field_or(
+        alloc,
+        Name::Order,
+        Items::new(alloc),
+        &Order { renderers },
+        value,
+    )
+}
+
 #[tactic(auto, unfolding(crate::specs::Session::session_read))]
 fn session_of(alloc: Global, value: &Value) -> Result<Session, SessionError>
     ensures given { Gives result (spec.session_read (view value.now)) }
@@ -90,34 +227,50 @@ fn session_of(alloc: Global, value: &Value) -> Result<Session, SessionError>
     ensures pages { IfOk result (λ s. All (λ page. IsPageText page.url) s.pages) }
 {
     if !value.is_object() {
-        return Err(wrong_kind());
+        return Err(wrong_kind(alloc));
     }
     let renderers = field(alloc, Name::Renderers, &Renderers, value)?;
+    let suffixes = suffixes_of(alloc, value)?;
     let start = field(alloc, Name::Start, &Start, value)?;
+    let order = order_of(alloc, renderers, value)?;
     let pages = field(alloc, Name::Pages, &Pages, value)?;
-    no_others(&[Name::Renderers, Name::Start, Name::Pages], value)?;
+    let known = [
+        Name::Renderers,
+        Name::Suffixes,
+        Name::Start,
+        Name::Order,
+        Name::Pages,
+    ];
+    no_others(alloc, &known, value)?;
     Ok(Session {
         renderers,
+        suffixes,
         start,
-        order: Items::new(alloc),
+        order,
         pages,
     })
 }
 
 /// Reads the session that a JSON text is.
 ///
-/// A session is an object with just these fields, each of which it must have: `renderers`, the whole 1; `start`, a
-/// list of one text, an http or https URL; `pages`, a list of at most 1,000 pages. A page is an object with `url`,
-/// an http or https URL without fragment that differs from those of all earlier pages as it is serialized, and, if
-/// it likes, with `script`, a list of at most 200 steps. A step is an object with just the fields `op`, which is
-/// `get`, `of`, which is `window`, and `key`, a text. Texts have at most 1,024 bytes. A URL is read without a base
-/// (URL Standard, section 4.4). Of two equal names in an object the last one counts.
+/// A session is an object with the fields `renderers`, a whole from 1 to 16; `suffixes`, a list of public suffixes;
+/// `start`, a list of 1 to 64 http or https URLs; `order`, a list of at most 20,000 numbers of renderers, from 0; and
+/// `pages`, a list of at most 1,000 pages. A page is an object with `url`, an http or https URL without fragment that
+/// differs from those of all earlier pages as it is serialized, and with `script` and `handler`, lists of at most 200
+/// steps. `suffixes`, `order`, `script` and `handler` may be absent, and are then empty. A step is an object with the
+/// name `op` and the fields of that step. Texts have at most 1,024 bytes. A URL is read without a base (URL
+/// Standard, section 4.4).
 ///
 /// # Errors
 ///
 /// `NotJson` comes exactly where the bytes are no JSON text: not UTF-8, not of JSON's grammar, nested more than 127
-/// deep, or with a number or an escape that `serde_json` refuses. `Shape` comes exactly where they are one that is
-/// no session. `NoMemory` comes where there was no memory.
+/// deep, or with a number or an escape that `serde_json` refuses. Every other refusal has the path of the place that
+/// it is about, and comes exactly where that is the first place that doesn't fit: an object's fields are read in
+/// the order above, those of a step in the order of its table, each to its end, items in order, and then an unknown
+/// field is looked for, the first by bytes. A step that sessions may not have yet is `UnknownStep` at its `op`, once
+/// all of it was read.
+/// At one place a missing field comes before a wrong kind, and that before a value out of its range. `NoMemory`
+/// comes where there was no memory.
 pub fn read_session(alloc: Global, bytes: &[u8]) -> Result<Session, SessionError>
     ensures session { Gives result (spec.session_of bytes.now) }
     ensures range { IfOk result IsInRange }

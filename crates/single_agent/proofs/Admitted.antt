@@ -1,21 +1,22 @@
--- The entries of a legal log can follow one another.
-use Rattle.std.proofs.Common.{◌≡◌, ℕ, ◌+◌, ◌<◌, ◌^◌, List, [], ◌∷◌, length, Option, Some, None, Bool, true, false, refl, subst, ◌∙◌, arith, inl, inr, eq-eqb}
+-- The entries that the start windows and exchanges make can follow the log.
+use Rattle.std.proofs.Common.{◌≡◌, ℕ, ◌+◌, ◌<◌, ◌^◌, List, [], ◌∷◌, length, Option, Some, None, Bool, true, false, refl, sym, ap, subst, ◌∙◌, arith, inl, inr, eq-eqb}
 use mathlib.Core.Logic.{◌⊎◌}
-use Rattle.std.specs.Prelude.{◌&&◌, ◌||◌, ◌==◌, not, nat_lt, IsTrue, if◌then◌else◌}
+use Rattle.std.specs.Prelude.{◌&&◌, ◌||◌, ◌==◌, not, nat_lt, is_none, IsTrue, if◌then◌else◌}
+use Rattle.origin_core.specs.Origin.{page_origin}
 use Rattle.std.proofs.lemmas.Bool.Decides.{nat_tests}
 use Rattle.tree_log.specs.declared.entry.Entry.{Entry}
 use Rattle.tree_log.specs.declared.entry.Load.{Load}
 use Rattle.tree_log.specs.declared.entry.What.{What}
-use Rattle.tree_log.specs.declared.entry.What.TheVariants.{Open, Frame, Begin, Commit}
+use Rattle.tree_log.specs.declared.entry.What.TheVariants.{Open, Frame, Drop, Begin, Commit, Sync}
 use Rattle.tree_log.specs.Log.{is}
 use Rattle.tree_log.specs.Facts.{or_else}
-use Rattle.tree_log.specs.Tree.{Tree, tree_of, nav_of, is_discarded}
-use Rattle.tree_log.specs.Admits.{has, is_next, admits_what, admits, AreAdmitted}
+use Rattle.tree_log.specs.Tree.{Tree, tree_of, nav_of, is_discarded, is_active}
+use Rattle.tree_log.specs.Admits.{has, is_next, is_next_load, admits_what, admits, AreAdmitted}
 use Rattle.tree_log.proofs.Admitted.{both, StandsFor, StandsIfAny, LoadsStand, AllStand, loads_stand, few_of}
 use Rattle.single_agent.specs.declared.session.Session.{Session}
 use Rattle.single_agent.specs.Session.{starts_of, started, start_entry}
 use Rattle.single_agent.specs.NextTask.{load_waits, load_task, task_of, first_task, next_task, task_entry}
-use Rattle.single_agent.specs.LegalLog.{IsLegalLog, Started, Taken}
+use Rattle.single_agent.specs.Decision.{Rules, rules_of, by, framed, frame_load, load_for, group_in}
 
 lt_true : (a b : ℕ) → a < b → nat_lt a b ≡ true
 lt_true a b h = grind (arith, nat_tests)
@@ -80,9 +81,9 @@ or_true false b h = h
 next_true : (n : ℕ) → n < 4294967295 → is_next n n ≡ true
 next_true n h = rw (eq-eqb n n refl, lt_true n 4294967295 h) refl
 
-pub start_admitted : (n : ℕ) (log : List Entry) (url : List ℕ) → length log < 2 ^ 30 → admits (tree_of log) (start_entry n (tree_of log) url) ≡ true
+pub start_admitted : (rules : Rules) (log : List Entry) (url : List ℕ) → length log < 2 ^ 30 → admits (tree_of log) (start_entry rules (tree_of log) url) ≡ true
 unfolding admits
-start_admitted n log url h =
+start_admitted rules log url h =
     let few = few_of log in
     let t = tree_of log in
     rw (
@@ -93,27 +94,62 @@ start_admitted n log url h =
       next_true (t.docs + 1) (omega (arith, few.docs)),
     ) refl
 
-pub started_admitted : (n : ℕ) (log : List Entry) (urls : List (List ℕ)) → AreAdmitted log → length log + length urls < 2 ^ 30 → AreAdmitted (started n log urls)
-started_admitted n log [] all few = all
-started_admitted n log (url ∷ urls) all few =
-    started_admitted n (start_entry n (tree_of log) url ∷ log) urls (start_admitted n log url (omega arith), all) (omega arith)
+pub started_admitted : (rules : Rules) (log : List Entry) (urls : List (List ℕ)) → AreAdmitted log → length log + length urls < 2 ^ 30 → AreAdmitted (started rules log urls)
+started_admitted rules log [] all few = all
+started_admitted rules log (url ∷ urls) all few =
+    started_admitted rules (start_entry rules (tree_of log) url ∷ log) urls (start_admitted rules log url (omega arith), all) (omega arith)
 
-started_length : (n : ℕ) (log : List Entry) (urls : List (List ℕ)) → length (started n log urls) ≡ length log + length urls
-started_length n log [] = omega arith
-started_length n log (url ∷ urls) = started_length n (start_entry n (tree_of log) url ∷ log) urls ∙ (omega arith)
+started_length : (rules : Rules) (log : List Entry) (urls : List (List ℕ)) → length (started rules log urls) ≡ length log + length urls
+started_length rules log [] = omega arith
+started_length rules log (url ∷ urls) = started_length rules (start_entry rules (tree_of log) url ∷ log) urls ∙ (omega arith)
 
 pub starts_length : (s : Session) → length (starts_of s) ≡ length s.start
 unfolding starts_of
-starts_length s = started_length s.renderers [] s.start ∙ (omega arith)
+starts_length s = started_length (rules_of s) [] s.start ∙ (omega arith)
 
 starts_admitted : (s : Session) → length (starts_of s) < 2 ^ 30 → AreAdmitted (starts_of s)
 unfolding starts_of
-starts_admitted s few = started_admitted s.renderers [] s.start tt (let e = started_length s.renderers [] s.start in omega arith)
+starts_admitted s few = started_admitted (rules_of s) [] s.start tt (let e = started_length (rules_of s) [] s.start in omega arith)
 
--- LEGAL LOGS
+-- WHAT A DOCUMENT ASKS FOR
 
-pub legal_admitted : (s : Session) (log : List Entry) → IsLegalLog s log → length log < 2 ^ 30 → AreAdmitted log
-legal_admitted s log Started few = starts_admitted s few
-legal_admitted s log (Taken older r what legal there next) few =
-    let all = legal_admitted s older legal (omega arith) in
-    (task_admitted older r what all (omega arith) next, all)
+module _ (log : List Entry) (r asker : ℕ) (few : length log < 2 ^ 30) (there : asker < (tree_of log).docs) (active : is_active (tree_of log) asker ≡ true) where
+  is_its : (nat_lt asker (tree_of log).docs && is_active (tree_of log) asker) ≡ true
+  is_its = rw (lt_true asker (tree_of log).docs there, active) refl
+
+  short : nat_lt (tree_of log).len 4294967295 ≡ true
+  short = let e = (few_of log).len in lt_true (tree_of log).len 4294967295 (omega arith)
+
+  pub sync_admitted : admits (tree_of log) (by r asker Sync) ≡ true
+  unfolding admits
+  sync_admitted = rw (short, is_its) refl
+
+  pub drop_admitted : (nav : ℕ) → nav < (tree_of log).navs → admits (tree_of log) (by r asker (Drop nav)) ≡ true
+  unfolding admits
+  drop_admitted nav h = rw (short, is_its, lt_true nav (tree_of log).navs h) refl
+
+  next_load : (load : Option Load) → ((l : Load) → load ≡ Some l → l.doc ≡ (tree_of log).docs + 1) → is_next_load ((tree_of log).docs + 1) load ≡ true
+  next_load None h = refl
+  next_load (Some l) h =
+      let e : l.doc ≡ (tree_of log).docs + 1 = h l refl in
+      let docs = (few_of log).docs in
+      subst (λ d. is_next ((tree_of log).docs + 1) d ≡ true) (sym e) (next_true ((tree_of log).docs + 1) (omega arith))
+
+  frame_numbers : (rules : Rules) (flags : ℕ) (url : Option (List ℕ)) (l : Load) → frame_load rules (tree_of log) asker flags url ≡ Some l → l.doc ≡ (tree_of log).docs + 1
+  frame_numbers rules flags None l h = absurd cc
+  frame_numbers rules flags (Some url) l h = loaded (is_none (page_origin url)) h where
+    loaded : (b : Bool) → (if b then None else Some (load_for rules (tree_of log) (group_in (tree_of log) (nav_of (tree_of log) asker)) flags ((tree_of log).docs + 1) asker url)) ≡ Some l → l.doc ≡ (tree_of log).docs + 1
+    loaded true e = absurd cc
+    loaded false e = let same : load_for rules (tree_of log) (group_in (tree_of log) (nav_of (tree_of log) asker)) flags ((tree_of log).docs + 1) asker url ≡ l = cc in ap (λ (x : Load). x.doc) (sym same)
+
+  pub frame_admitted : (rules : Rules) (name : List ℕ) (flags : ℕ) (url : Option (List ℕ)) → admits (tree_of log) (by r asker (framed rules (tree_of log) asker name flags url)) ≡ true
+  unfolding admits
+  frame_admitted rules name flags url =
+      let few' = few_of log in
+      rw (
+        short,
+        is_its,
+        next_true (tree_of log).navs (omega (arith, few'.navs)),
+        next_true (tree_of log).docs (omega (arith, few'.docs)),
+        next_load (frame_load rules (tree_of log) asker flags url) (frame_numbers rules flags url),
+      ) refl

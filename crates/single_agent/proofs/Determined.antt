@@ -3,16 +3,20 @@ use Rattle.std.proofs.Common.{◌≡◌, ℕ, ◌+◌, List, [], ◌∷◌, leng
 use Rattle.tree_log.specs.declared.entry.Entry.{Entry}
 use Rattle.single_agent.specs.declared.session.Session.{Session}
 use Rattle.single_agent.specs.declared.act.Act.{Act}
-use Rattle.single_agent.specs.declared.act.Act.TheVariants.{Task}
+use Rattle.single_agent.specs.declared.act.Act.TheVariants.{Step, Task}
 use Rattle.single_agent.specs.declared.act.Move.{Move}
-use Rattle.single_agent.specs.declared.act.Move.TheVariants.{Answers, Takes}
+use Rattle.single_agent.specs.declared.act.Move.TheVariants.{Answers, Asks, Takes}
 use Rattle.single_agent.specs.NextTask.{next_task, task_entry}
-use Rattle.single_agent.specs.NextAct.{next_move, kind_of, MovesTo, IsActOn}
+use Rattle.single_agent.specs.Decision.{Rules, rules_of, exchange}
+use Rattle.single_agent.specs.NextAct.{next_move, kind_of, answer_of, MovesTo, IsActOn}
 use Rattle.single_agent.specs.Turns.{Turned, log_of, record_of, told_of, Plays, IsTurn, ArePlayed}
 
-moves_same : (r : ℕ) (log : List Entry) (acts : List Act) (m : Move) (a b : Act) (x y : List Entry) → MovesTo r log acts m a x → MovesTo r log acts m b y → (a ≡ b) × (x ≡ y)
-moves_same r log acts (Answers doc point op answer) a b x y g h = (g.0 ∙ sym h.0, g.1 ∙ sym h.1)
-moves_same r log acts Takes a b x y g h =
+moves_same : (rules : Rules) (r : ℕ) (log : List Entry) (acts : List Act) (m : Move) (a b : Act) (x y : List Entry) → MovesTo rules r log acts m a x → MovesTo rules r log acts m b y → (a ≡ b) × (x ≡ y)
+moves_same rules r log acts (Answers doc point op answer) a b x y g h = (g.0 ∙ sym h.0, g.1 ∙ sym h.1)
+moves_same rules r log acts (Asks doc point op q) a b x y g h =
+    let same : x ≡ y = g.0 ∙ sym h.0 in
+    (g.1 ∙ ap (λ (o : List Entry). Step (length o + length log) doc point op (answer_of op (exchange rules log r q).outcome)) same ∙ sym h.1, same)
+moves_same rules r log acts Takes a b x y g h =
     let same : Some g.0 ≡ Some h.0 = sym g.1 ∙ h.1 in
     let what : g.0 ≡ h.0 = cc in (
       g.3 ∙ ap (λ w. Task (length log + 1) (kind_of w) (length log)) what ∙ sym h.3,
@@ -21,7 +25,7 @@ moves_same r log acts Takes a b x y g h =
 
 no_act : (s : Session) (r : ℕ) (log : List Entry) (acts : List Act) (a : Act) (x : List Entry) → next_move s log acts ≡ Takes → next_task log r ≡ None → IsActOn s r log acts a x → ⊥
 no_act s r log acts a x takes none h =
-    let g : MovesTo r log acts Takes a x = subst (λ (m : Move). MovesTo r log acts m a x) takes h in
+    let g : MovesTo (rules_of s) r log acts Takes a x = subst (λ (m : Move). MovesTo (rules_of s) r log acts m a x) takes h in
     let clash : None ≡ Some g.0 = sym none ∙ g.1 in
     absurd cc
 
@@ -29,7 +33,7 @@ plays_same : (s : Session) (r : ℕ) (log : List Entry) (acts : List Act) (told 
 plays_same s r log acts told None None x y g h = (refl, g.2 ∙ sym h.2)
 plays_same s r log acts told None (Some b) x y g h = absurd (no_act s r log acts b y g.0 g.1 h.0)
 plays_same s r log acts told (Some a) None x y g h = absurd (no_act s r log acts a x h.0 h.1 g.0)
-plays_same s r log acts told (Some a) (Some b) x y g h = let e = moves_same r log acts (next_move s log acts) a b x y g.0 h.0 in (ap Some e.0, e.1)
+plays_same s r log acts told (Some a) (Some b) x y g h = let e = moves_same (rules_of s) r log acts (next_move s log acts) a b x y g.0 h.0 in (ap Some e.0, e.1)
 
 -- two turns after the same turns are the same
 pub turn_determined : (s : Session) (older : List Turned) (t u : Turned) → IsTurn s older t → IsTurn s older u → t ≡ u

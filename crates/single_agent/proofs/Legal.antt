@@ -1,5 +1,5 @@
 -- A legal log and legal records stay so by one more act, whatever it is.
-use Rattle.std.proofs.Common.{◌≡◌, ◌≢◌, ℕ, ◌+◌, ◌<◌, ◌≤◌, List, [], ◌∷◌, ◌++◌, length, Some, refl, sym, ap, subst, ◌∙◌, arith, length-append, eq-eqb}
+use Rattle.std.proofs.Common.{◌≡◌, ◌≢◌, ℕ, ◌+◌, ◌<◌, ◌≤◌, List, [], ◌∷◌, ◌++◌, length, Option, Some, refl, sym, ap, subst, ◌∙◌, arith, length-append, eq-eqb}
 use Rattle.std.proofs.lemmas.Bool.{ne_eqb}
 use Rattle.std.proofs.lemmas.List.Elements.{filter-append}
 use Rattle.tree_log.specs.declared.entry.Entry.{Entry}
@@ -8,10 +8,13 @@ use Rattle.tree_log.proofs.Places.{prefix_more, prefix_whole}
 use Rattle.single_agent.specs.declared.session.Session.{Session}
 use Rattle.single_agent.specs.declared.act.Act.{Act}
 use Rattle.single_agent.specs.declared.act.Move.{Move}
-use Rattle.single_agent.specs.declared.act.Move.TheVariants.{Answers, Takes}
-use Rattle.single_agent.specs.NextTask.{task_entry}
+use Rattle.single_agent.specs.declared.act.Move.TheVariants.{Answers, Asks, Takes}
 use Rattle.single_agent.specs.NextAct.{length_of, newest_length, next_move, MovesTo, IsActOn}
-use Rattle.single_agent.specs.LegalLog.{IsLegalLog, Taken}
+use Rattle.tree_log.specs.declared.entry.What.{What}
+use Rattle.single_agent.specs.declared.request.Request.TheVariants.{Next}
+use Rattle.single_agent.specs.Decision.{Rules, rules_of, Decision, task_decision, exchange}
+use Rattle.single_agent.specs.LegalLog.{IsLegalLog, Exchanged}
+use Rattle.single_agent.proofs.Made.{AreBy, exchange_by, next_gives}
 use Rattle.single_agent.specs.LegalRecord.{StandsIn, LegalActs, IsLegalRecord}
 use Rattle.single_agent.proofs.Grown.{Within, newest_within}
 
@@ -33,27 +36,42 @@ made_append : (r : ℕ) (xs ys : List Entry) → made_by r (xs ++ ys) ≡ made_b
 unfolding made_by
 made_append r xs ys = filter-append (is_by r) xs ys
 
-pub own_by : (r : ℕ) (log : List Entry) (older : List Act) (m : Move) (act : Act) (own : List Entry) → MovesTo r log older m act own → made_by r own ≡ own
-own_by r log older (Answers doc point op answer) act own h = subst (λ (o : List Entry). made_by r o ≡ o) (sym h.1) (none_made r)
-own_by r log older Takes act own h = subst (λ (o : List Entry). made_by r o ≡ o) (sym h.2) (alone r (task_entry r h.0) refl)
+all_made : (r : ℕ) (es : List Entry) → AreBy r es → made_by r es ≡ es
+all_made r [] h = none_made r
+all_made r (e ∷ es) h = made_append r (e ∷ []) es ∙ ap (λ (l : List Entry). l ++ made_by r es) (alone r e h.0) ∙ ap (λ (l : List Entry). e ∷ l) (all_made r es h.1)
 
-pub own_other : (q r : ℕ) (log : List Entry) (older : List Act) (m : Move) (act : Act) (own : List Entry) → MovesTo r log older m act own → q ≢ r → made_by q own ≡ []
-own_other q r log older (Answers doc point op answer) act own h other = subst (λ (o : List Entry). made_by q o ≡ []) (sym h.1) (none_made q)
-own_other q r log older Takes act own h other = subst (λ (o : List Entry). made_by q o ≡ []) (sym h.2) (not_alone q r (task_entry r h.0) refl other)
+none_of_others : (q r : ℕ) (es : List Entry) → AreBy r es → q ≢ r → made_by q es ≡ []
+none_of_others q r [] h other = none_made q
+none_of_others q r (e ∷ es) h other = made_append q (e ∷ []) es ∙ ap (λ (l : List Entry). l ++ made_by q es) (not_alone q r e h.0 other) ∙ none_of_others q r es h.1 other
+
+own_is : (rules : Rules) (r : ℕ) (log : List Entry) (older : List Act) (m : Move) (act : Act) (own : List Entry) → MovesTo rules r log older m act own → AreBy r own
+own_is rules r log older (Answers doc point op answer) act own h = subst (AreBy r) (sym h.1) tt
+own_is rules r log older (Asks doc point op q) act own h = subst (AreBy r) (sym h.0) (exchange_by rules log r q)
+own_is rules r log older Takes act own h = subst (AreBy r) (sym h.2) (refl, tt)
+
+pub own_by : (rules : Rules) (r : ℕ) (log : List Entry) (older : List Act) (m : Move) (act : Act) (own : List Entry) → MovesTo rules r log older m act own → made_by r own ≡ own
+own_by rules r log older m act own h = all_made r own (own_is rules r log older m act own h)
+
+pub own_other : (rules : Rules) (q r : ℕ) (log : List Entry) (older : List Act) (m : Move) (act : Act) (own : List Entry) → MovesTo rules r log older m act own → q ≢ r → made_by q own ≡ []
+own_other rules q r log older m act own h other = none_of_others q r own (own_is rules r log older m act own h) other
 
 -- ITS LENGTH
 
-pub act_length : (r : ℕ) (log : List Entry) (older : List Act) (m : Move) (act : Act) (own : List Entry) → MovesTo r log older m act own → newest_length older ≤ length log
+pub act_length : (rules : Rules) (r : ℕ) (log : List Entry) (older : List Act) (m : Move) (act : Act) (own : List Entry) → MovesTo rules r log older m act own → newest_length older ≤ length log
     → (newest_length older ≤ length_of act) × (length_of act ≤ length own + length log)
-act_length r log older (Answers doc point op answer) act own h within = let e = ap length_of h.0 in (omega arith, omega arith)
-act_length r log older Takes act own h within = let e = ap length_of h.3 in let l = ap length h.2 in (omega arith, omega arith)
+act_length rules r log older (Answers doc point op answer) act own h within = let e = ap length_of h.0 in (omega arith, omega arith)
+act_length rules r log older (Asks doc point op q) act own h within = let e = ap length_of h.1 in (omega arith, omega arith)
+act_length rules r log older Takes act own h within = let e = ap length_of h.3 in let l = ap length h.2 in (omega arith, omega arith)
 
 -- THE LOG
 
 -- a legal log and the entries of one act
-pub log_acted : (s : Session) (r : ℕ) (log : List Entry) (older : List Act) (m : Move) (act : Act) (own : List Entry) → r < s.renderers → IsLegalLog s log → MovesTo r log older m act own → IsLegalLog s (own ++ log)
+pub log_acted : (s : Session) (r : ℕ) (log : List Entry) (older : List Act) (m : Move) (act : Act) (own : List Entry) → r < s.renderers → IsLegalLog s log → MovesTo (rules_of s) r log older m act own → IsLegalLog s (own ++ log)
 log_acted s r log older (Answers doc point op answer) act own there legal h = subst (λ (o : List Entry). IsLegalLog s (o ++ log)) (sym h.1) legal
-log_acted s r log older Takes act own there legal h = subst (λ (o : List Entry). IsLegalLog s (o ++ log)) (sym h.2) (Taken log r h.0 legal there h.1)
+log_acted s r log older (Asks doc point op q) act own there legal h = subst (λ (o : List Entry). IsLegalLog s (o ++ log)) (sym h.0) (Exchanged log r q legal there)
+log_acted s r log older Takes act own there legal h =
+    let same : (exchange (rules_of s) log r Next).entries ≡ own = ap (λ (d : Decision). d.entries) (next_gives (rules_of s) log r) ∙ ap (λ (o : Option What). (task_decision r (length log) o).entries) h.1 ∙ sym h.2 in
+    subst (λ (o : List Entry). IsLegalLog s (o ++ log)) same (Exchanged log r Next legal there)
 
 -- A RECORD
 
@@ -86,7 +104,7 @@ acts_within s r log (a ∷ older) mine h = (h.2.no_longer, acts_within s r log o
 pub record_acted : (s : Session) (r : ℕ) (log : List Entry) (older : List Act) (act : Act) (own : List Entry) → IsLegalRecord s r log older → IsActOn s r log older act own → IsLegalRecord s r (own ++ log) (act ∷ older)
 record_acted s r log older act own legal h =
     let within = newest_within (length log) older (acts_within s r log older _ legal) in
-    let lengths = act_length r log older (next_move s log older) act own h within in
+    let lengths = act_length (rules_of s) r log older (next_move s log older) act own h within in
     let whole = longer own log in
     let same : prefix (length log) (own ++ log) ≡ log = prefix_more own log (length log) (omega arith) ∙ prefix_whole log (length log) (omega arith) in (
       own,
@@ -101,11 +119,11 @@ record_acted s r log older act own legal h =
         no_longer = omega (arith, lengths.1);
       },
       acts_grown s r own log older (made_by r log) legal,
-      made_append r own log ∙ ap (λ (l : List Entry). l ++ made_by r log) (own_by r log older (next_move s log older) act own h),
+      made_append r own log ∙ ap (λ (l : List Entry). l ++ made_by r log) (own_by (rules_of s) r log older (next_move s log older) act own h),
     )
 
 -- another renderer's act
 pub record_other : (s : Session) (q r : ℕ) (log : List Entry) (acts older : List Act) (act : Act) (own : List Entry) → IsLegalRecord s q log acts → IsActOn s r log older act own → q ≢ r → IsLegalRecord s q (own ++ log) acts
 record_other s q r log acts older act own legal h other =
-    subst (LegalActs s q (own ++ log) acts) (sym (made_append q own log ∙ ap (λ (l : List Entry). l ++ made_by q log) (own_other q r log older (next_move s log older) act own h other)))
+    subst (LegalActs s q (own ++ log) acts) (sym (made_append q own log ∙ ap (λ (l : List Entry). l ++ made_by q log) (own_other (rules_of s) q r log older (next_move s log older) act own h other)))
     (acts_grown s q own log acts (made_by q log) legal)

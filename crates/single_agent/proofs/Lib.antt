@@ -1,5 +1,7 @@
+pub mod Made
 pub mod Grown
 pub mod Legal
 pub mod Played
 pub mod Determined
 pub mod Admitted
+pub mod Mine

@@ -6,6 +6,7 @@ use Rattle.tree_log.specs.Log.{made_by}
 use Rattle.tree_log.specs.Tree.{tree_of}
 use Rattle.single_agent.specs.declared.session.Session.{Session}
 use Rattle.single_agent.specs.declared.act.Act.{Act}
+use Rattle.single_agent.specs.Decision.{Rules, rules_of}
 use Rattle.single_agent.specs.Session.{starts_of, started, start_entry}
 use Rattle.single_agent.specs.NextAct.{next_move}
 use Rattle.single_agent.specs.LegalLog.{IsLegalLog, Started}
@@ -13,14 +14,14 @@ use Rattle.single_agent.specs.LegalRecord.{IsLegalRecord}
 use Rattle.single_agent.specs.Turns.{Turned, log_of, with_act, record_of, told_of, Plays, ArePlayed}
 use Rattle.single_agent.proofs.Legal.{log_acted, record_acted, record_other}
 
-started_alone : (q n : ℕ) (log : List Entry) (urls : List (List ℕ)) → made_by q log ≡ [] → made_by q (started n log urls) ≡ []
+started_alone : (q : ℕ) (rules : Rules) (log : List Entry) (urls : List (List ℕ)) → made_by q log ≡ [] → made_by q (started rules log urls) ≡ []
 unfolding made_by
-started_alone q n log [] h = h
-started_alone q n log (url ∷ urls) h = started_alone q n (start_entry n (tree_of log) url ∷ log) urls h
+started_alone q rules log [] h = h
+started_alone q rules log (url ∷ urls) h = started_alone q rules (start_entry rules (tree_of log) url ∷ log) urls h
 
 starts_alone : (s : Session) (q : ℕ) → made_by q (starts_of s) ≡ []
 unfolding starts_of made_by
-starts_alone s q = started_alone q s.renderers [] s.start refl
+starts_alone s q = started_alone q (rules_of s) [] s.start refl
 
 log_played : (s : Session) (r : ℕ) (log : List Entry) (acts : List Act) (told : ℕ) (act : Option Act) (own : List Entry) → r < s.renderers → IsLegalLog s log → Plays s r log acts told act own → IsLegalLog s (own ++ log)
 log_played s r log acts told None own there legal h = subst (λ (o : List Entry). IsLegalLog s (o ++ log)) (sym h.2) legal

@@ -1,4 +1,5 @@
--- Legal records of a renderer against a log. The acts stand newest first.
+-- Legal records of a renderer against a log. The acts stand newest first. Records are this project's own: they say what
+-- scripts observed.
 use Rattle.std.specs.Prelude.{◌≡◌, ℕ, ◌+◌, ◌≤◌, List, [], ◌∷◌, ◌++◌, length}
 use Rattle.tree_log.specs.declared.entry.Entry.{Entry}
 use Rattle.tree_log.specs.Log.{prefix, made_by}

@@ -1,34 +1,95 @@
--- How the record of a renderer prints: a line for each act, the oldest first.
-use Rattle.std.specs.Prelude.{ℕ, List, [], ◌∷◌, length, codes, decimal}
+-- How the record of a renderer prints: a line for each act, the oldest first. The texts are this project's own.
+use Rattle.std.specs.Prelude.{ℕ, List, [], ◌∷◌, length, codes, decimal, map, Option, Some, None}
+use Rattle.json.specs.Print.{quoted}
+use Rattle.plain_data.specs.DataText.{with_commas}
 use Rattle.tree_log.specs.LogText.{◌◊◌}
-use Rattle.window_props.specs.ValueText.{value_text}
+use Rattle.window_props.specs.declared.key.Key.{Key}
+use Rattle.window_props.specs.declared.descriptor.Descriptor.{Descriptor}
+use Rattle.window_props.specs.Keys.{key_text}
+use Rattle.window_props.specs.ValueText.{value_text, truth_text, descriptor_text}
 use Rattle.single_agent.specs.declared.act.Act.{Act}
 use Rattle.single_agent.specs.declared.act.Act.TheVariants.{Step, Task}
 use Rattle.single_agent.specs.declared.act.Point.{Point}
-use Rattle.single_agent.specs.declared.act.Point.TheVariants.{Script}
-use Rattle.single_agent.specs.declared.act.OpName.{OpName}
-use Rattle.single_agent.specs.declared.act.OpName.TheVariants.{Get}
+use Rattle.single_agent.specs.declared.act.Point.TheVariants.{Script, Handler}
+use Rattle.single_agent.specs.declared.step.OpName.{OpName}
+use Rattle.single_agent.specs.declared.step.OpName.TheVariants as op
 use Rattle.single_agent.specs.declared.act.TaskKind.{TaskKind}
-use Rattle.single_agent.specs.declared.act.TaskKind.TheVariants.{Commit}
+use Rattle.single_agent.specs.declared.act.TaskKind.TheVariants as kind
 use Rattle.single_agent.specs.declared.act.Answer.{Answer}
 use Rattle.single_agent.specs.declared.act.Answer.TheVariants as answer
-use Rattle.single_agent.specs.declared.act.Outcome.{Outcome}
-use Rattle.single_agent.specs.declared.act.Outcome.TheVariants as outcome
+use Rattle.single_agent.specs.declared.outcome.Rule.{Rule}
+use Rattle.single_agent.specs.declared.outcome.Rule.TheVariants.{S1, S2, S3, S4, S5, S6, S7, S8}
+use Rattle.single_agent.specs.declared.outcome.Outcome.{Outcome}
+use Rattle.single_agent.specs.declared.outcome.Outcome.TheVariants as outcome
 
 abbrev pub point_words : Point → List ℕ
 point_words (Script made) = codes "s" ◊ decimal made
+point_words (Handler place made) = codes "h" ◊ decimal place ◊ codes "." ◊ decimal made
 
-abbrev pub op_words : OpName → List ℕ
-op_words Get = codes "get"
+unfoldable pub op_words : OpName → List ℕ
+op_words op.Let = codes "let"
+op_words op.Get = codes "get"
+op_words op.Has = codes "has"
+op_words op.Describe = codes "describe"
+op_words op.Keys = codes "keys"
+op_words op.Proto = codes "proto"
+op_words op.SetProto = codes "setproto"
+op_words op.Extensible = codes "extensible"
+op_words op.Prevent = codes "prevent"
+op_words op.Set = codes "set"
+op_words op.Define = codes "define"
+op_words op.Delete = codes "delete"
+op_words op.Call = codes "call"
+op_words op.Sync = codes "sync"
+op_words op.Frame = codes "frame"
+op_words op.Drop = codes "drop"
+op_words op.Open = codes "open"
+op_words op.Link = codes "link"
 
-abbrev pub outcome_words : Outcome → List ℕ
+unfoldable pub rule_words : Rule → List ℕ
+rule_words S1 = codes "S1"
+rule_words S2 = codes "S2"
+rule_words S3 = codes "S3"
+rule_words S4 = codes "S4"
+rule_words S5 = codes "S5"
+rule_words S6 = codes "S6"
+rule_words S7 = codes "S7"
+rule_words S8 = codes "S8"
+
+abbrev pub key_words : Key → List ℕ
+key_words key = quoted (key_text key)
+
+-- a list of strings, without spaces
+unfoldable pub keys_words : List Key → List ℕ
+keys_words keys = codes "[" ◊ with_commas (map key_words keys) ◊ codes "]"
+
+unfoldable pub own_words : Option Descriptor → List ℕ
+own_words None = codes "undefined"
+own_words (Some d) = descriptor_text d
+
+-- an act's outcome is never an ask
+unfoldable pub outcome_words : Outcome → List ℕ
 outcome_words (outcome.Value v) = value_text v
+outcome_words (outcome.Truth b) = truth_text b
+outcome_words (outcome.Keys keys) = keys_words keys
+outcome_words (outcome.Own property) = own_words property
+outcome_words (outcome.Security rule) = codes "SecurityError " ◊ rule_words rule
+outcome_words outcome.Syntax = codes "SyntaxError"
+outcome_words outcome.SchemeOut = codes "SchemeOut"
+outcome_words outcome.DataClone = codes "DataCloneError"
+outcome_words outcome.TypeFault = codes "TypeError"
+outcome_words (outcome.Ask a) = codes "ask"
 
 abbrev pub answer_words : Answer → List ℕ
 answer_words (answer.Outcome o) = outcome_words o
+answer_words answer.Unloaded = codes "unloaded"
+answer_words answer.Lost = codes "lost"
 
-abbrev pub kind_words : TaskKind → List ℕ
-kind_words Commit = codes "commit"
+unfoldable pub kind_words : TaskKind → List ℕ
+kind_words kind.Commit = codes "commit"
+kind_words kind.Fire = codes "fire"
+kind_words kind.Lapse = codes "lapse"
+kind_words kind.Gone = codes "gone"
 
 -- the line of an act
 unfoldable pub act_line : Act → List ℕ

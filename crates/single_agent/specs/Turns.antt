@@ -1,13 +1,15 @@
--- The turns of a play, newest first, and what they made.
+-- The turns of a play, newest first, and what they made. Their order is this project's own: it picks one interleaving of renderers.
 use Rattle.std.specs.Prelude.{◌≡◌, ℕ, ◌+◌, ◌-◌, ◌<◌, ◌≤◌, ◌%◌, ◌==◌, ◌&&◌, not, nat_lt, List, [], ◌∷◌, ◌++◌, Bool, true, false, IsTrue, length, take, Option, Some, None, slice_get, if◌then◌else◌}
 use Rattle.std.specs.List.{list_any}
 use Rattle.tree_log.specs.declared.entry.Entry.{Entry}
 use Rattle.single_agent.specs.declared.session.Session.{Session}
 use Rattle.single_agent.specs.declared.act.Act.{Act}
 use Rattle.single_agent.specs.declared.act.Move.{Move}
-use Rattle.single_agent.specs.declared.act.Move.TheVariants.{Answers, Takes}
+use Rattle.single_agent.specs.declared.act.Move.TheVariants.{Answers, Asks, Takes}
 use Rattle.single_agent.specs.declared.act.Ending.{Ending}
 use Rattle.single_agent.specs.declared.act.Ending.TheVariants.{Done, LogFull, ActsFull}
+use Rattle.tree_log.specs.Tree.{Tree, tree_of, is, is_active}
+use Rattle.single_agent.specs.Decision.{asker_of, home_if_active}
 use Rattle.single_agent.specs.Session.{starts_of}
 use Rattle.single_agent.specs.NextTask.{next_task}
 use Rattle.single_agent.specs.NextAct.{length_of, step_left, next_move, IsActOn}
@@ -37,6 +39,7 @@ record_of r (t ∷ older) = if t.renderer == r then with_act t.act (record_of r 
 -- whether a move makes an exchange with the coordinator
 abbrev pub is_exchange : Move → Bool
 is_exchange (Answers doc point op outcome) = false
+is_exchange (Asks doc point op request) = true
 is_exchange Takes = true
 
 -- how much of the log renderer r was told: the whole log, after each of its exchanges
@@ -79,10 +82,15 @@ HasRoom log = length log + 4 ≤ most_entries
 abbrev pub IsFull : List Entry → Type 0
 IsFull log = most_entries < length log + 4
 
--- whether a move needs room in the log
-abbrev pub needs_room : Move → Bool
-needs_room (Answers doc point op outcome) = false
-needs_room Takes = true
+-- whether a move of renderer r needs room in the log: a request of a document of another renderer, or of one that is no
+-- longer active, needs none
+abbrev pub needs_room : Tree → ℕ → Move → Bool
+needs_room t r (Answers doc point op outcome) = false
+needs_room t r (Asks doc point op request) = is (home_if_active t (asker_of request)) r && is_active t (asker_of request)
+needs_room t r Takes = true
+
+abbrev pub NeedsRoom : Session → List Turned → ℕ → Type 0
+NeedsRoom s turns r = IsTrue (needs_room (tree_of (log_of s turns)) r (next_move s (log_of s turns) (record_of r turns)))
 
 -- LEGAL TURNS
 
@@ -97,7 +105,7 @@ pub record IsTurn (s : Session) (older : List Turned) (t : Turned) : Type 0 wher
   pub due : next_renderer s older ≡ Some t.renderer
   pub there : t.renderer < s.renderers
   pub fewer : length (record_of t.renderer older) < most_acts
-  pub room : IsTrue (needs_room (next_move s (log_of s older) (record_of t.renderer older))) → HasRoom (log_of s older)
+  pub room : NeedsRoom s older t.renderer → HasRoom (log_of s older)
   pub plays : Plays s t.renderer (log_of s older) (record_of t.renderer older) (told_of s t.renderer older) t.act t.own
 
 -- turns, each after those before it
@@ -120,7 +128,7 @@ pub record StopsAtActs (s : Session) (turns : List Turned) (r : ℕ) : Type 0 wh
 pub record StopsAtLog (s : Session) (turns : List Turned) (r : ℕ) : Type 0 where
   pub due : next_renderer s turns ≡ Some r
   pub fewer : length (record_of r turns) < most_acts
-  pub needs : IsTrue (needs_room (next_move s (log_of s turns) (record_of r turns)))
+  pub needs : NeedsRoom s turns r
   pub full : IsFull (log_of s turns)
 
 -- a play is done where none is next and all renderers rest; or it stops at a limit

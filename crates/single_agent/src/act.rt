@@ -1,28 +1,27 @@
+use crate::outcome::Outcome;
+use crate::request::Request;
+use crate::step::OpName;
+use plain_data::Text;
 use window_props::Value;
-
-/// The name of a step.
-#[derive(Clone, Copy, Debug, PartialEq, Eq)]
-pub enum OpName {
-    Get,
-}
 
 /// Where a step stands in its page.
 #[derive(Clone, Copy, Debug, PartialEq, Eq)]
 pub enum Point {
     /// The step of the script with this number, from 0.
     Script(u32),
-}
-
-/// What an operation came to.
-#[derive(Drop)]
-pub enum Outcome {
-    Value(Value),
+    /// The step with the second number of the handler that the message fired at the first place started.
+    Handler(u32, u32),
 }
 
 /// What a step answered.
 #[derive(Drop)]
 pub enum Answer {
+    /// An outcome other than `Ask`.
     Outcome(Outcome),
+    /// The document was no longer active on the log.
+    Unloaded,
+    /// The link to the coordinator failed.
+    Lost,
 }
 
 /// The kind of a task.
@@ -30,6 +29,12 @@ pub enum Answer {
 pub enum TaskKind {
     /// A document that was loaded becomes the active one, and its script starts.
     Commit,
+    /// A message is delivered, and the handler of its document starts.
+    Fire,
+    /// A message is given up.
+    Lapse,
+    /// A window closes.
+    Gone,
 }
 
 /// A line of a renderer's record. `at` is the number of entries of the log that the renderer had heard.
@@ -58,6 +63,23 @@ pub struct Running {
     pub made: u32,
 }
 
+/// A write to a register of a document.
+#[derive(Drop)]
+pub struct Write {
+    pub doc: u32,
+    pub name: Text,
+    pub value: Value,
+}
+
+/// What a step is on what its renderer heard.
+#[derive(Drop)]
+pub enum Performed {
+    /// It answers.
+    Answer(Outcome),
+    /// It asks the coordinator.
+    Ask(Request),
+}
+
 /// What a renderer does at its turn.
 #[derive(Drop)]
 pub enum Move {
@@ -67,6 +89,13 @@ pub enum Move {
         point: Point,
         op: OpName,
         answer: Outcome,
+    },
+    /// A step asks the coordinator.
+    Asks {
+        doc: u32,
+        point: Point,
+        op: OpName,
+        request: Request,
     },
     /// No step is left, so the renderer takes its next task, if there is one.
     Takes,

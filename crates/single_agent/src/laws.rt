@@ -1,6 +1,4 @@
-ghost use Rattle.std.specs.Prelude.{◌≡◌, ◌<◌, ◌^◌, ℕ, List, length};
-ghost use Rattle.tree_log.specs.Admits.{AreAdmitted};
-ghost use Rattle.tree_log.specs.declared.entry.Entry.{Entry};
+ghost use Rattle.std.specs.Prelude.{◌≡◌, ℕ, List, length};
 ghost use Rattle.single_agent.specs.declared.session.Session.{Session};
 ghost use Rattle.single_agent.specs.LegalLog.{IsLegalLog};
 ghost use Rattle.single_agent.specs.LegalRecord.{IsLegalRecord};
@@ -18,10 +16,4 @@ pub fn turns_are_determined()
 pub fn turns_are_legal()
     ensures log { (s : Session) (turns : List Turned) → ArePlayed s turns → IsLegalLog s (log_of s turns) }
     ensures records { (s : Session) (r : ℕ) (turns : List Turned) → ArePlayed s turns → IsLegalRecord s r (log_of s turns) (record_of r turns) }
-{}
-
-/// Each entry of a legal log may follow those before it.
-#[tactic(auto, using(crate::proofs::Admitted::legal_admitted))]
-pub fn legal_logs_are_admitted()
-    ensures { (s : Session) (log : List Entry) → IsLegalLog s log → length log < 2 ^ 30 → AreAdmitted log }
 {}

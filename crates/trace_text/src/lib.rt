@@ -3,6 +3,7 @@
 //! Each is exactly what the definitions say, byte by byte.
 #![tactic(auto)]
 
+mod answer_text;
 mod log_lines;
 mod record_lines;
 mod status;

@@ -1,13 +1,15 @@
-ghost use Rattle.std.specs.Prelude.{◌≡◌, ◌++◌, OnOk, IfOk, string_bytes, reverse, length};
-ghost use Rattle.single_agent.specs.RecordText.{point_words, op_words, answer_words, outcome_words, kind_words, act_line, record_words};
+ghost use Rattle.std.specs.Prelude.{◌≡◌, ◌++◌, OnOk, IfOk, string_bytes, reverse};
+ghost use Rattle.single_agent.specs.RecordText.{point_words, op_words, kind_words, act_line, record_words};
 ghost use Rattle.std.specs.Prelude.{Some};
-ghost use Rattle.window_props.specs.ValueText as spec;
 
+#[cfg(test)]
+mod tests;
+
+use crate::answer_text::answer_text;
 use plain_data::Text;
-use single_agent::{Act, Answer, OpName, Outcome, Point, TaskKind};
+use single_agent::{Act, OpName, Point, TaskKind};
 use std::alloc::{AllocError, Global};
 use std::fmt;
-use window_props::value_text;
 
 #[derive(Clone, Copy)]
 struct At(Point);
@@ -18,39 +20,46 @@ impl fmt::Display for At {
     fn fmt<W: fmt::Write>(&self, f: &mut fmt::Formatter<W>) -> fmt::Result {
         match self.0 {
             Point::Script(made) => write!(f, "s{made}"),
+            Point::Handler(place, made) => write!(f, "h{place}.{made}"),
         }
     }
 }
 
+#[tactic(auto, unfolding(single_agent::specs::RecordText::op_words))]
 fn op_text(op: OpName) -> &'static str
     ensures { result.now ≡ op_words op }
 {
     match op {
+        OpName::Let => "let",
         OpName::Get => "get",
+        OpName::Has => "has",
+        OpName::Describe => "describe",
+        OpName::Keys => "keys",
+        OpName::Proto => "proto",
+        OpName::SetProto => "setproto",
+        OpName::Extensible => "extensible",
+        OpName::Prevent => "prevent",
+        OpName::Set => "set",
+        OpName::Define => "define",
+        OpName::Delete => "delete",
+        OpName::Call => "call",
+        OpName::Sync => "sync",
+        OpName::Frame => "frame",
+        OpName::Drop => "drop",
+        OpName::Open => "open",
+        OpName::Link => "link",
     }
 }
 
+#[tactic(auto, unfolding(single_agent::specs::RecordText::kind_words))]
 fn kind_text(kind: TaskKind) -> &'static str
     ensures { result.now ≡ kind_words kind }
 {
     match kind {
         TaskKind::Commit => "commit",
-    }
-}
-
-fn answer_text(alloc: Global, answer: &Answer) -> Result<Text, AllocError>
-    ensures { IfOk result (λ text. text ≡ answer_words answer.now) }
-{
-    match answer {
-        Answer::Outcome(outcome) => outcome_text(alloc, outcome),
-    }
-}
-
-fn outcome_text(alloc: Global, outcome: &Outcome) -> Result<Text, AllocError>
-    ensures { IfOk result (λ text. text ≡ outcome_words outcome.now) }
-{
-    match outcome {
-        Outcome::Value(value) => value_text(alloc, value),
+        TaskKind::Fire => "fire",
+        TaskKind::Lapse => "lapse",
+        TaskKind::Gone => "gone",
     }
 }
 

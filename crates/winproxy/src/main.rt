@@ -2,6 +2,7 @@
 //!
 //! ```text
 //! winproxy play < session.json
+//! winproxy check < session.json
 //! ```
 //!
 //! Its words are those of [`winproxy_cmd::command`], its input is standard input, and all that it prints goes to standard

@@ -1,13 +1,2 @@
-pub mod Tasks
-pub mod Leaves
-pub mod Growth
-pub mod Stepping
-pub mod Hearing
-pub mod Starts
-pub mod Keeping
-pub mod Turning
-pub mod Rounds
-pub mod Begins
 pub mod Words
 pub mod Records
-pub mod OneWindow

@@ -5,9 +5,9 @@ use Rattle.std.specs.List.{flat_map}
 use Rattle.tree_view.specs.declared.view.View.{Ghosts}
 use Rattle.single_agent.specs.RecordText.{record_words}
 use Rattle.single_agent.specs.Turns.{Turned, record_of}
-use Rattle.winproxy_cmd.specs.declared.worker.Worker.{Worker}
+use Rattle.session_player.specs.declared.worker.Worker.{Worker}
 use Rattle.winproxy_cmd.specs.Command.{records_words}
-use Rattle.winproxy_cmd.specs.Underway.{Seat, seat_of, seats_of}
+use Rattle.session_player.specs.Underway.{Seat, seat_of, seats_of}
 
 abbrev pub worker_words : {V : Type 0} {view : Ghosts V} → Worker V view → List ℕ
 worker_words w = record_words w.renderer (reverse w.acts.items)

@@ -1,5 +1,5 @@
 -- What a command answers, and what it prints.
-use Rattle.std.specs.Prelude.{◌≡◌, ℕ, zero, suc, ◌<◌, ◌≤◌, List, [], ◌∷◌, length, Option, codes, IfSome, Ok, Err}
+use Rattle.std.specs.Prelude.{◌≡◌, ◌⊎◌, ℕ, zero, suc, ◌<◌, ◌≤◌, List, [], ◌∷◌, length, Option, codes, string_bytes, IfSome, Ok, Err}
 use Rattle.std.specs.Io.KnownBytes.{Appends}
 use Rattle.ports.specs.Causes.{Rose}
 use Rattle.tree_log.specs.LogText.{◌◊◌, log_words}
@@ -8,34 +8,51 @@ use Rattle.single_agent.specs.declared.act.Ending.{Ending}
 use Rattle.single_agent.specs.declared.act.Ending.TheVariants as ending
 use Rattle.single_agent.specs.LegalLog.{IsLegalLog}
 use Rattle.single_agent.specs.LegalRecord.{IsLegalRecord}
-use Rattle.single_agent.specs.Turns.{Turned, log_of, record_of, ArePlayed, EndsBy}
+use Rattle.single_agent.specs.Turns.{Turned, log_of, record_of, ArePlayed, EndsBy, StopsAtLog}
 use Rattle.single_agent.specs.RecordText.{record_words}
+use Rattle.session_reading.specs.declared.error.SessionError.{SessionError}
+use Rattle.session_reading.specs.PathText.{refusal_words}
 use Rattle.session_text.specs.Session.{session_of}
-use Rattle.session_text.specs.declared.error.SessionError.TheVariants as session_error
+use Rattle.session_text.specs.Range.{IsInRange}
+use Rattle.session_text.specs.Summary.{summary_words}
 use Rattle.trace_text.specs.declared.status.Status.{Status}
 use Rattle.trace_text.specs.declared.status.Status.TheVariants as status
 use Rattle.trace_text.specs.StatusText.{status_words}
-use Rattle.winproxy_cmd.specs.declared.refusal.Refusal.{Refusal}
-use Rattle.winproxy_cmd.specs.declared.refusal.Refusal.TheVariants.{NotJson, TooLarge, Shape}
 use Rattle.winproxy_cmd.specs.declared.forms.TheConstants.{LIMIT}
+use Rattle.winproxy_cmd.specs.declared.forms.Input.{Input}
+use Rattle.winproxy_cmd.specs.declared.forms.Input.TheVariants as input
 
 -- WORDS AND INPUTS
 
 abbrev pub IsPlayWord : List (List ℕ) → Type 0
 IsPlayWord words = words ≡ codes "play" ∷ []
 
+abbrev pub IsCheckWord : List (List ℕ) → Type 0
+IsCheckWord words = words ≡ codes "check" ∷ []
+
 -- the input is a session
 abbrev pub IsSessionText : List ℕ → Session → Type 0
 IsSessionText bytes session = (length bytes ≤ LIMIT) × (session_of bytes ≡ Ok session)
 
--- when an input is refused, and why
-abbrev pub IsRefusedAs : Refusal → List ℕ → Type 0
-IsRefusedAs TooLarge bytes = LIMIT < length bytes
-IsRefusedAs NotJson bytes = (length bytes ≤ LIMIT) × (session_of bytes ≡ Err session_error.NotJson)
-IsRefusedAs Shape bytes = (length bytes ≤ LIMIT) × (session_of bytes ≡ Err session_error.Shape)
+-- the input is refused, and this line says why
+abbrev pub IsRefusedWith : List ℕ → List ℕ → Type 0
+IsRefusedWith bytes text =
+    ((LIMIT < length bytes) × (text ≡ codes "refused TooLarge\n"))
+    ⊎ ((length bytes ≤ LIMIT) × (e : SessionError) × (session_of bytes ≡ Err e) × (text ≡ refusal_words e))
 
 abbrev pub IsRefused : List ℕ → Type 0
-IsRefused bytes = (refusal : Refusal) × IsRefusedAs refusal bytes
+IsRefused bytes = (text : List ℕ) × IsRefusedWith bytes text
+
+-- what the bytes of a source are, told by its count of faults before and after
+abbrev pub IsInput : Option (List ℕ) → ℕ → ℕ → Input → Type 0
+IsInput bytes before now (input.Session session) = IfSome bytes (λ b. IsSessionText b session) × IsInRange session
+IsInput bytes before now (input.Refused text) = IfSome bytes (λ b. IsRefusedWith b (string_bytes text))
+IsInput bytes before now input.Unread = Rose before now
+
+-- a session was read
+abbrev pub HasSession : Input → Type 0
+HasSession (input.Session session) = Unit {0}
+HasSession _ = ⊥
 
 -- KINDS OF STATUSES
 
@@ -45,6 +62,10 @@ IsRun status.Done = Unit {0}
 IsRun (status.LogFull n) = Unit {0}
 IsRun (status.ActsFull r) = Unit {0}
 IsRun _ = ⊥
+
+abbrev pub IsRunOrMemory : Status → Type 0
+IsRunOrMemory status.Memory = Unit {0}
+IsRunOrMemory st = IsRun st
 
 abbrev pub IsDoneOrMemory : Status → Type 0
 IsDoneOrMemory status.Done = Unit {0}
@@ -56,15 +77,17 @@ IsRefusalOrMemory status.Session = Unit {0}
 IsRefusalOrMemory status.Memory = Unit {0}
 IsRefusalOrMemory _ = ⊥
 
+-- the words that a status of a run needs: a limit is met in a play alone
+abbrev pub IsAskedBy : List (List ℕ) → Status → Type 0
+IsAskedBy words status.Done = IsPlayWord words ⊎ IsCheckWord words
+IsAskedBy words (status.LogFull n) = IsPlayWord words
+IsAskedBy words (status.ActsFull r) = IsPlayWord words
+IsAskedBy words _ = Unit {0}
+
 -- TEXTS
 
 abbrev pub usage_words : List ℕ
 usage_words = codes "usage: winproxy play, race, alike, check or gen N\n"
-
-abbrev pub refusal_words : Refusal → List ℕ
-refusal_words NotJson = codes "refused NotJson\n"
-refusal_words TooLarge = codes "refused TooLarge\n"
-refusal_words Shape = codes "refused Shape\n"
 
 -- the records of so many renderers, from number r on
 abbrev pub records_words : List Turned → ℕ → ℕ → List ℕ
@@ -108,19 +131,52 @@ IsLegalRun input st text = (session : Session) × IfSome input (λ bytes. IsSess
 abbrev pub PrintsLegalRun : Option (List ℕ) → Status → Option (List ℕ) → Option (List ℕ) → Type 0
 PrintsLegalRun input st before after = (text : List ℕ) × IsLegalRun input st text × Appends before after text
 
+-- turns of the session that the input is, of which this holds
+abbrev pub PlaysTo : Option (List ℕ) → (Session → List Turned → Type 0) → Type 0
+PlaysTo input holds =
+    (session : Session) × (turns : List Turned) × IfSome input (λ bytes. IsSessionText bytes session) × ArePlayed session turns × holds session turns
+
+-- the log of these turns has so many entries, and no room for what is next
+abbrev pub StopsAtLogOf : ℕ → Session → List Turned → Type 0
+StopsAtLogOf n s turns = (length (log_of s turns) ≡ n) × (r : ℕ) × StopsAtLog s turns r
+
+-- SUMMARIES
+
+-- the line on the session that the input is, and the status
+abbrev pub IsSummary : Option (List ℕ) → List ℕ → Type 0
+IsSummary input text =
+    (session : Session) × IfSome input (λ bytes. IsSessionText bytes session) × (text ≡ summary_words session ◊ status_words status.Done)
+
+-- What the sink took is the line on the session that the input is, and the status.
+abbrev pub PrintsSummary : Option (List ℕ) → Option (List ℕ) → Option (List ℕ) → Type 0
+PrintsSummary input before after = (text : List ℕ) × IsSummary input text × Appends before after text
+
 -- ANSWERS
+
+-- the answer to an input that is no session
+abbrev pub IsRefusal : Option (List ℕ) → List ℕ → Type 0
+IsRefusal input text =
+    (refusal : List ℕ) × IfSome input (λ bytes. IsRefusedWith bytes refusal) × (text ≡ refusal ◊ status_words status.Session)
 
 -- what a play answers before anything is written, and why
 abbrev pub PlayAnswers : Option (List ℕ) → ℕ → ℕ → Status → List ℕ → Type 0
 PlayAnswers input before now status.Done text = IsLegalRun input status.Done text
 PlayAnswers input before now (status.LogFull n) text = IsLegalRun input (status.LogFull n) text
 PlayAnswers input before now (status.ActsFull r) text = IsLegalRun input (status.ActsFull r) text
-PlayAnswers input before now status.Session text =
-    (refusal : Refusal) × IfSome input (IsRefusedAs refusal) × (text ≡ refusal_words refusal ◊ status_words status.Session)
+PlayAnswers input before now status.Session text = IsRefusal input text
 PlayAnswers input before now status.Read text = Rose before now × (text ≡ status_words status.Read)
 PlayAnswers input before now _ text = ⊥
 
+-- what a check answers before anything is written, and why
+abbrev pub CheckAnswers : Option (List ℕ) → ℕ → ℕ → Status → List ℕ → Type 0
+CheckAnswers input before now status.Done text = IsSummary input text
+CheckAnswers input before now status.Session text = IsRefusal input text
+CheckAnswers input before now status.Read text = Rose before now × (text ≡ status_words status.Read)
+CheckAnswers input before now _ text = ⊥
+
 -- what a command answers before anything is written, and why
 abbrev pub Answers : List (List ℕ) → Option (List ℕ) → ℕ → ℕ → Status → List ℕ → Type 0
-Answers words input before now status.Usage text = (IsPlayWord words → ⊥) × (text ≡ usage_words ◊ status_words status.Usage)
-Answers words input before now st text = IsPlayWord words × PlayAnswers input before now st text
+Answers words input before now status.Usage text =
+    (IsPlayWord words → ⊥) × (IsCheckWord words → ⊥) × (text ≡ usage_words ◊ status_words status.Usage)
+Answers words input before now st text =
+    (IsPlayWord words × PlayAnswers input before now st text) ⊎ (IsCheckWord words × CheckAnswers input before now st text)

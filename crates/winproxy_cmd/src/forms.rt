@@ -1,14 +1,14 @@
-ghost use Rattle.std.specs.Prelude.{◌≡◌, ◌⊎◌, ◌≤◌, List, ℕ, length, map, IfOk, IfSome, Some, IsTrue, ◌↔◌, string_bytes};
+ghost use Rattle.std.specs.Prelude.{◌≡◌, ◌⊎◌, ◌≤◌, List, ℕ, [], ◌∷◌, length, map, IfOk, IfSome, Some, IsTrue, ◌↔◌, string_bytes};
 ghost use Rattle.std.specs.Io.KnownBytes.{IsAtEnd, Appends, Keeps};
 ghost use Rattle.ports.specs.Causes.{Rose, TakesFront};
 ghost use Rattle.trace_text.specs.declared.status.Status.{Status as StatusValue};
 ghost use Rattle.single_agent.specs.declared.session.Session.{Session as SessionValue};
-ghost use Rattle.winproxy_cmd.specs.Command.{IsPlayWord, IsRun, IsDoneOrMemory, IsRefusalOrMemory, IsRefused, IsSessionText, PrintsLegalRun, PlayAnswers, Answers, usage_words};
+ghost use Rattle.single_agent.specs.Turns.{StopsAtActs};
+ghost use Rattle.winproxy_cmd.specs.Command.{IsPlayWord, IsCheckWord, IsAskedBy, IsInput, HasSession, IsRun, IsRunOrMemory, IsDoneOrMemory, IsRefusalOrMemory, IsRefused, IsSessionText, PrintsLegalRun, PrintsSummary, PlaysTo, StopsAtLogOf, PlayAnswers, CheckAnswers, Answers, usage_words};
 
-use crate::output::{refused, run_text, unread};
-use crate::refusal::Refusal;
+use crate::output::{checked, refused, run_text, unread};
 use ports::{ReadAllError, Sink, Source, read_all, write_all_of};
-use session_text::{SessionError, read_session};
+use session_text::{Session, SessionError, read_session, refusal_text};
 use std::alloc::{AllocError, Global};
 use trace_text::Status;
 
@@ -18,33 +18,70 @@ pub const LIMIT: u32 = 8_388_608;
 /// What is printed where the words ask for nothing that there is.
 const USAGE: &str = "usage: winproxy play, race, alike, check or gen N\nstatus 1 usage\n";
 
-/// Whether the words are `play` alone.
-fn is_play(words: &[String]) -> bool
-    ensures { IsTrue result ↔ IsPlayWord (map string_bytes words.now) }
+/// What a source held.
+#[derive(Drop)]
+enum Input {
+    Session(Session),
+    /// No session; the line says why.
+    Refused(String),
+    /// It couldn't be read.
+    Unread,
+}
+
+/// Reads the session that the source holds.
+fn read_input<S: Source>(alloc: Global, source: &mut S) -> Result<Input, AllocError>
+    ensures input { IfOk result (λ input. IsInput (S.left source.old) (S.faults source.old) (S.faults source.new) input) }
+    ensures whole { IfOk result (λ input. HasSession input → IsAtEnd (S.left source.new)) }
 {
-    match words {
-        [word] => word.as_str() == "play",
-        _ => false,
+    let bytes = match read_all(alloc, source, LIMIT) {
+        Ok(bytes) => bytes,
+        Err(ReadAllError::ReadFault) => return Ok(Input::Unread),
+        Err(ReadAllError::TooLarge) => {
+            return Ok(Input::Refused(String::from_str(alloc, "refused TooLarge\n")?));
+        }
+        Err(ReadAllError::NoMemory) => return Err(AllocError),
+    };
+    match read_session(alloc, &bytes) {
+        Ok(session) => Ok(Input::Session(session)),
+        Err(SessionError::NoMemory) => Err(AllocError),
+        Err(refusal) => Ok(Input::Refused(refusal_text(alloc, &refusal)?)),
     }
 }
 
 /// The status of a play and what it prints, before anything is written.
-fn answer<S: Source>(alloc: Global, source: &mut S) -> Result<(Status, String), AllocError>
+fn play_answer<S: Source>(alloc: Global, source: &mut S) -> Result<(Status, String), AllocError>
     ensures answer { IfOk result (λ answer. PlayAnswers (S.left source.old) (S.faults source.old) (S.faults source.new) answer.0 (string_bytes answer.1)) }
-    ensures done { IfOk result (λ answer. IsRun answer.0 → answer.0 ≡ Status.Done) }
     ensures whole { IfOk result (λ answer. IsRun answer.0 → IsAtEnd (S.left source.new)) }
 {
-    let bytes = match read_all(alloc, source, LIMIT) {
-        Ok(bytes) => bytes,
-        Err(ReadAllError::ReadFault) => return unread(alloc),
-        Err(ReadAllError::TooLarge) => return refused(alloc, Refusal::TooLarge),
-        Err(ReadAllError::NoMemory) => return Err(AllocError),
-    };
-    match read_session(alloc, &bytes) {
-        Ok(session) => run_text(alloc, &session),
-        Err(SessionError::NotJson) => refused(alloc, Refusal::NotJson),
-        Err(SessionError::Shape) => refused(alloc, Refusal::Shape),
-        Err(SessionError::NoMemory) => Err(AllocError),
+    match read_input(alloc, source)? {
+        Input::Session(session) => run_text(alloc, &session),
+        Input::Refused(refusal) => refused(alloc, refusal),
+        Input::Unread => unread(alloc),
+    }
+}
+
+/// The status of a check and what it prints, before anything is written.
+fn check_answer<S: Source>(alloc: Global, source: &mut S) -> Result<(Status, String), AllocError>
+    ensures answer { IfOk result (λ answer. CheckAnswers (S.left source.old) (S.faults source.old) (S.faults source.new) answer.0 (string_bytes answer.1)) }
+    ensures whole { IfOk result (λ answer. answer.0 ≡ Status.Done → IsAtEnd (S.left source.new)) }
+{
+    match read_input(alloc, source)? {
+        Input::Session(session) => checked(alloc, &session),
+        Input::Refused(refusal) => refused(alloc, refusal),
+        Input::Unread => unread(alloc),
+    }
+}
+
+/// Prints the text: the status, or `Write` where the sink is at fault.
+fn print<K: Sink>(sink: &mut K, status: Status, text: &str) -> Status
+    ensures either { (result ≡ Status.Write) ⊎ (result ≡ status) }
+    ensures write { result ≡ Status.Write → (status ≡ Status.Write → ⊥) → Rose (K.faults sink.old) (K.faults sink.new) }
+    ensures front { result ≡ Status.Write → (status ≡ Status.Write → ⊥) → TakesFront (K.taken sink.old) (K.taken sink.new) text.now }
+    ensures text { (result ≡ Status.Write → ⊥) → Appends (K.taken sink.old) (K.taken sink.new) text.now }
+{
+    match write_all_of(sink, text.as_bytes()) {
+        Ok(()) => status,
+        Err(_) => Status::Write,
     }
 }
 
@@ -53,16 +90,17 @@ fn answer<S: Source>(alloc: Global, source: &mut S) -> Result<(Status, String), 
 ///
 /// # Statuses
 ///
-/// `Done` comes where the session was played to its end; a session of one window meets no limit. `Session` comes
-/// exactly where the input has more than [`LIMIT`] bytes or is no session; `refused` and the reason are printed before
-/// the status line. `Read` comes only where the source's count
-/// of faults rose, `Write` only where the sink's rose. `Memory` comes where there was none; then nothing is printed.
+/// `Done` comes where the session was played to its end, `LogFull` and `ActsFull` where a turn met a limit of the log or
+/// of a record. `Session` comes exactly where the input has more than [`LIMIT`] bytes or is no session; `refused` and the
+/// reason are printed before the status line. `Read` comes only where the source's count of faults rose, `Write` only
+/// where the sink's rose. `Memory` comes where there was none; then nothing is printed.
 pub fn play<S: Source, K: Sink>(alloc: Global, source: &mut S, sink: &mut K) -> Status
     // The sink took the text of a legal log of the session that the source had, of the legal records against that log,
     // and of the status.
     ensures headline { IsRun result → PrintsLegalRun (S.left source.old) result (K.taken sink.old) (K.taken sink.new) }
-    // The run came to its end: a session of one window meets no limit.
-    ensures done { IsRun result → result ≡ Status.Done }
+    // A limit stops the play exactly at a turn that meets it.
+    ensures log_full { (n : ℕ) → result ≡ Status.LogFull n → PlaysTo (S.left source.old) (StopsAtLogOf n) }
+    ensures acts_full { (r : ℕ) → result ≡ Status.ActsFull r → PlaysTo (S.left source.old) (λ s turns. StopsAtActs s turns r) }
     ensures whole { IsRun result → IsAtEnd (S.left source.new) }
     ensures usage { result ≡ Status.Usage → ⊥ }
     ensures session { result ≡ Status.Session → IfSome (S.left source.old) IsRefused }
@@ -74,28 +112,69 @@ pub fn play<S: Source, K: Sink>(alloc: Global, source: &mut S, sink: &mut K) -> 
     ensures front { result ≡ Status.Write → (status : StatusValue) × (text : List ℕ)
         × PlayAnswers (S.left source.old) (S.faults source.old) (S.faults source.new) status text × TakesFront (K.taken sink.old) (K.taken sink.new) text }
     ensures nothing { result ≡ Status.Memory → Keeps (K.taken sink.old) (K.taken sink.new) }
-    // Where nothing is at fault, a session is played to its end, and what is none is refused, unless there is no memory.
+    // Where nothing is at fault, a session is played to its end or to a limit, and what is none is refused, unless there
+    // is no memory.
+    ensures complete { (bytes : List ℕ) (session : SessionValue) → S.left source.old ≡ Some bytes → IsSessionText bytes session
+        → (Rose (S.faults source.old) (S.faults source.new) → ⊥) → (Rose (K.faults sink.old) (K.faults sink.new) → ⊥) → IsRunOrMemory result }
+    ensures refuses { (bytes : List ℕ) → S.left source.old ≡ Some bytes → IsRefused bytes
+        → (Rose (S.faults source.old) (S.faults source.new) → ⊥) → (Rose (K.faults sink.old) (K.faults sink.new) → ⊥) → IsRefusalOrMemory result }
+{
+    match play_answer(alloc, source) {
+        Ok((status, text)) => print(sink, status, text.as_str()),
+        Err(_) => Status::Memory,
+    }
+}
+
+/// Reads a session from the source without playing it, and prints to the sink how many renderers, start windows, pages
+/// and steps it has, and a status line. The text is built whole before the first write.
+///
+/// # Statuses
+///
+/// `Done` comes where the input is a session. All others are those of [`play`], but for the limits, which no check meets.
+pub fn check<S: Source, K: Sink>(alloc: Global, source: &mut S, sink: &mut K) -> Status
+    // The sink took the line on the session that the source had, and the status.
+    ensures summary { result ≡ Status.Done → PrintsSummary (S.left source.old) (K.taken sink.old) (K.taken sink.new) }
+    ensures limits { IsRun result → result ≡ Status.Done }
+    ensures whole { result ≡ Status.Done → IsAtEnd (S.left source.new) }
+    ensures usage { result ≡ Status.Usage → ⊥ }
+    ensures session { result ≡ Status.Session → IfSome (S.left source.old) IsRefused }
+    ensures read { result ≡ Status.Read → Rose (S.faults source.old) (S.faults source.new) }
+    ensures write { result ≡ Status.Write → Rose (K.faults sink.old) (K.faults sink.new) }
+    // All that was printed is the text of an answer, a front of one, or nothing.
+    ensures text { (result ≡ Status.Write → ⊥) → (result ≡ Status.Memory → ⊥) → (text : List ℕ)
+        × CheckAnswers (S.left source.old) (S.faults source.old) (S.faults source.new) result text × Appends (K.taken sink.old) (K.taken sink.new) text }
+    ensures front { result ≡ Status.Write → (status : StatusValue) × (text : List ℕ)
+        × CheckAnswers (S.left source.old) (S.faults source.old) (S.faults source.new) status text × TakesFront (K.taken sink.old) (K.taken sink.new) text }
+    ensures nothing { result ≡ Status.Memory → Keeps (K.taken sink.old) (K.taken sink.new) }
+    // Where nothing is at fault, the line on a session is printed, and what is none is refused, unless there is no memory.
     ensures complete { (bytes : List ℕ) (session : SessionValue) → S.left source.old ≡ Some bytes → IsSessionText bytes session
         → (Rose (S.faults source.old) (S.faults source.new) → ⊥) → (Rose (K.faults sink.old) (K.faults sink.new) → ⊥) → IsDoneOrMemory result }
     ensures refuses { (bytes : List ℕ) → S.left source.old ≡ Some bytes → IsRefused bytes
         → (Rose (S.faults source.old) (S.faults source.new) → ⊥) → (Rose (K.faults sink.old) (K.faults sink.new) → ⊥) → IsRefusalOrMemory result }
 {
-    match answer(alloc, source) {
-        Ok((status, text)) => match write_all_of(sink, text.as_bytes()) {
-            Ok(()) => status,
-            Err(_) => Status::Write,
-        },
+    match check_answer(alloc, source) {
+        Ok((status, text)) => print(sink, status, text.as_str()),
         Err(_) => Status::Memory,
     }
 }
 
+/// Whether the words are this one alone.
+fn is_word(words: &[String], name: &str) -> bool
+    ensures { IsTrue result ↔ (map string_bytes words.now ≡ name.now ∷ []) }
+{
+    match words {
+        [word] => word.as_str() == name,
+        _ => false,
+    }
+}
+
 /// Does what the words ask for, the program's name left out. What it reads comes from the source, and all that it
-/// prints goes to the sink: with the one word `play` it does what [`play`] does.
+/// prints goes to the sink: with the one word `play` it does what [`play`] does, and with `check` what [`check`] does.
 ///
 /// # Statuses
 ///
 /// `Usage` comes exactly where the words ask for nothing that there is, unless the sink is at fault; then the input
-/// isn't read, and no memory is taken. All others are those of [`play`].
+/// isn't read, and no memory is taken. All others are those of [`play`] and of [`check`].
 pub fn command<S: Source, K: Sink>(
     alloc: Global,
     words: &[String],
@@ -104,16 +183,23 @@ pub fn command<S: Source, K: Sink>(
 ) -> Status
     // The sink took the text of a legal log of the session that the source had, of the legal records against that log,
     // and of the status.
-    ensures headline { IsRun result → PrintsLegalRun (S.left source.old) result (K.taken sink.old) (K.taken sink.new) }
-    // The run came to its end: a session of one window meets no limit.
-    ensures done { IsRun result → result ≡ Status.Done }
+    ensures headline { IsPlayWord (map string_bytes words.now) → IsRun result → PrintsLegalRun (S.left source.old) result (K.taken sink.old) (K.taken sink.new) }
+    // The sink took the line on the session that the source had, and the status.
+    ensures summary { IsCheckWord (map string_bytes words.now) → result ≡ Status.Done → PrintsSummary (S.left source.old) (K.taken sink.old) (K.taken sink.new) }
+    // A limit stops a play exactly at a turn that meets it.
+    ensures log_full { (n : ℕ) → result ≡ Status.LogFull n → PlaysTo (S.left source.old) (StopsAtLogOf n) }
+    ensures acts_full { (r : ℕ) → result ≡ Status.ActsFull r → PlaysTo (S.left source.old) (λ s turns. StopsAtActs s turns r) }
     ensures whole { IsRun result → IsAtEnd (S.left source.new) }
-    ensures run { IsRun result → IsPlayWord (map string_bytes words.now) }
-    ensures usage { result ≡ Status.Usage → IsPlayWord (map string_bytes words.now) → ⊥ }
-    ensures else_usage { (IsPlayWord (map string_bytes words.now) → ⊥) → (result ≡ Status.Usage) ⊎ (result ≡ Status.Write) }
-    ensures unread { (IsPlayWord (map string_bytes words.now) → ⊥) → S.left source.new ≡ S.left source.old }
-    ensures session { result ≡ Status.Session → IsPlayWord (map string_bytes words.now) × IfSome (S.left source.old) IsRefused }
-    ensures read { result ≡ Status.Read → IsPlayWord (map string_bytes words.now) × Rose (S.faults source.old) (S.faults source.new) }
+    ensures run { IsAskedBy (map string_bytes words.now) result }
+    ensures usage { result ≡ Status.Usage → (IsPlayWord (map string_bytes words.now) → ⊥) × (IsCheckWord (map string_bytes words.now) → ⊥) }
+    ensures else_usage { (IsPlayWord (map string_bytes words.now) → ⊥) → (IsCheckWord (map string_bytes words.now) → ⊥)
+        → (result ≡ Status.Usage) ⊎ (result ≡ Status.Write) }
+    ensures unread { (IsPlayWord (map string_bytes words.now) → ⊥) → (IsCheckWord (map string_bytes words.now) → ⊥)
+        → S.left source.new ≡ S.left source.old }
+    ensures session { result ≡ Status.Session → (IsPlayWord (map string_bytes words.now) ⊎ IsCheckWord (map string_bytes words.now))
+        × IfSome (S.left source.old) IsRefused }
+    ensures read { result ≡ Status.Read → (IsPlayWord (map string_bytes words.now) ⊎ IsCheckWord (map string_bytes words.now))
+        × Rose (S.faults source.old) (S.faults source.new) }
     ensures write { result ≡ Status.Write → Rose (K.faults sink.old) (K.faults sink.new) }
     // All that was printed is the text of an answer, a front of one, or nothing.
     ensures text { (result ≡ Status.Write → ⊥) → (result ≡ Status.Memory → ⊥) → (text : List ℕ)
@@ -121,17 +207,20 @@ pub fn command<S: Source, K: Sink>(
     ensures front { result ≡ Status.Write → (status : StatusValue) × (text : List ℕ)
         × Answers (map string_bytes words.now) (S.left source.old) (S.faults source.old) (S.faults source.new) status text × TakesFront (K.taken sink.old) (K.taken sink.new) text }
     ensures nothing { result ≡ Status.Memory → Keeps (K.taken sink.old) (K.taken sink.new) }
-    // Where nothing is at fault, a session is played to its end, and what is none is refused, unless there is no memory.
+    // Where nothing is at fault, a session is played to its end or to a limit, or its line printed, and what is none is
+    // refused, unless there is no memory.
     ensures complete { IsPlayWord (map string_bytes words.now) → (bytes : List ℕ) (session : SessionValue) → S.left source.old ≡ Some bytes → IsSessionText bytes session
+        → (Rose (S.faults source.old) (S.faults source.new) → ⊥) → (Rose (K.faults sink.old) (K.faults sink.new) → ⊥) → IsRunOrMemory result }
+    ensures complete_check { IsCheckWord (map string_bytes words.now) → (bytes : List ℕ) (session : SessionValue) → S.left source.old ≡ Some bytes → IsSessionText bytes session
         → (Rose (S.faults source.old) (S.faults source.new) → ⊥) → (Rose (K.faults sink.old) (K.faults sink.new) → ⊥) → IsDoneOrMemory result }
-    ensures refuses { IsPlayWord (map string_bytes words.now) → (bytes : List ℕ) → S.left source.old ≡ Some bytes → IsRefused bytes
+    ensures refuses { IsPlayWord (map string_bytes words.now) ⊎ IsCheckWord (map string_bytes words.now) → (bytes : List ℕ) → S.left source.old ≡ Some bytes → IsRefused bytes
         → (Rose (S.faults source.old) (S.faults source.new) → ⊥) → (Rose (K.faults sink.old) (K.faults sink.new) → ⊥) → IsRefusalOrMemory result }
 {
-    if is_play(words) {
+    if is_word(words, "play") {
         return play(alloc, source, sink);
     }
-    match write_all_of(sink, USAGE.as_bytes()) {
-        Ok(()) => Status::Usage,
-        Err(_) => Status::Write,
+    if is_word(words, "check") {
+        return check(alloc, source, sink);
     }
+    print(sink, Status::Usage, USAGE)
 }

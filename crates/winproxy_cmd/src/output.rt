@@ -1,14 +1,13 @@
-ghost use Rattle.std.specs.Prelude.{◌≡◌, ◌++◌, ◌<◌, [], OnOk, IfOk, string_bytes, reverse, length};
+ghost use Rattle.std.specs.Prelude.{◌≡◌, ◌++◌, OnOk, IfOk, string_bytes, reverse};
 ghost use Rattle.std.specs.List.{flat_map};
 ghost use Rattle.single_agent.specs.RecordText.{record_words};
 ghost use Rattle.session_text.specs.Range.{IsInRange};
+ghost use Rattle.session_text.specs.Summary.{summary_words};
 ghost use Rattle.trace_text.specs.StatusText.{status_words};
-ghost use Rattle.winproxy_cmd.specs.Command.{IsRunOf, status_of, refusal_words};
+ghost use Rattle.winproxy_cmd.specs.Command.{IsRunOf, status_of};
 
-use crate::playing;
-use crate::refusal::{Refusal, refusal_line};
-use crate::replica::Replica;
-use crate::worker::Worker;
+use session_player::{Replica, Worker};
+use session_text::summary_text;
 use single_agent::{Ending, Session};
 use std::alloc::{AllocError, Global};
 use trace_text::{Status, log_text, record_text, status_text};
@@ -44,9 +43,8 @@ fn push_records<V: Replica>(
 pub(crate) fn run_text(alloc: Global, session: &Session) -> Result<(Status, String), AllocError>
     requires range { IsInRange session.now }
     ensures run { IfOk result (λ run. IsRunOf session.now run.0 (string_bytes run.1)) }
-    ensures done { IfOk result (λ run. run.0 ≡ Status.Done) }
 {
-    let run = playing::play::<PlainView>(alloc, session)?;
+    let run = session_player::play::<PlainView>(alloc, session)?;
     let status = status_of(run.ending, run.desk.log.len());
     let mut out = String::new(alloc);
     out.push_str(log_text(alloc, &run.desk.log)?.as_str())?;
@@ -55,11 +53,21 @@ pub(crate) fn run_text(alloc: Global, session: &Session) -> Result<(Status, Stri
     Ok((status, out))
 }
 
-/// The answer to an input that is refused.
-pub(crate) fn refused(alloc: Global, refusal: Refusal) -> Result<(Status, String), AllocError>
-    ensures { IfOk result (λ answer. (answer.0 ≡ Status.Session) × (string_bytes answer.1 ≡ refusal_words refusal ++ status_words Status.Session)) }
+/// The answer of a check to a session.
+pub(crate) fn checked(alloc: Global, session: &Session) -> Result<(Status, String), AllocError>
+    requires range { IsInRange session.now }
+    ensures { IfOk result (λ answer. (answer.0 ≡ Status.Done) × (string_bytes answer.1 ≡ summary_words session.now ++ status_words Status.Done)) }
 {
-    let mut out = String::from_str(alloc, refusal_line(refusal))?;
+    let mut out = summary_text(alloc, session)?;
+    out.push_str(status_text(alloc, &Status::Done)?.as_str())?;
+    Ok((Status::Done, out))
+}
+
+/// The answer to an input that is refused with this line.
+pub(crate) fn refused(alloc: Global, refusal: String) -> Result<(Status, String), AllocError>
+    ensures { IfOk result (λ answer. (answer.0 ≡ Status.Session) × (string_bytes answer.1 ≡ string_bytes refusal ++ status_words Status.Session)) }
+{
+    let mut out = refusal;
     out.push_str(status_text(alloc, &Status::Session)?.as_str())?;
     Ok((Status::Session, out))
 }

@@ -1,5 +1,5 @@
 use Rattle.std.proofs.Common.{sym, subst, ◌∙◌, true≢false}
-use Rattle.session_text.specs.Refusing.{Gives}
+use Rattle.session_reading.specs.Refusing.{Gives}
 use Rattle.session_text.proofs.Top.{session_of_json, session_of_none}
 use Rattle.session_text.proofs.InRange.{range_of_gives}
 use Rattle.session_text.proofs.session.read_session.Goals as goal

@@ -6,14 +6,13 @@ use Rattle.single_agent.specs.Turns.{log_of, record_of}
 use Rattle.single_agent.proofs.Played.{legal_log, legal_record}
 use Rattle.winproxy_cmd.specs.Command.{run_words, records_words, status_of}
 use Rattle.winproxy_cmd.proofs.Records.{worker_words, are_records}
-use Rattle.winproxy_cmd.proofs.Leaves.{map_length}
-use Rattle.winproxy_cmd.specs.Underway.{seat_of}
-use Rattle.winproxy_cmd.proofs.OneWindow.{ends_done}
+use Rattle.session_player.proofs.Leaves.{map_length}
+use Rattle.session_player.specs.Underway.{seat_of}
 use Rattle.winproxy_cmd.proofs.output.run_text.Goals as goal
 
-pub returns-clause-run : goal.returns-clause-run
+pub returns : goal.returns
 unfolding run_words
-returns-clause-run c =
+returns c =
     let run = c.in_ok-run.run' in
     let p = c.in_ok-run.ensures in
     let s = c.args.session.now in
@@ -23,17 +22,14 @@ returns-clause-run c =
     let records : flat_map worker_words run.workers.items ≡ records_words p.turns 0 s.renderers =
     are_records _ run.workers.items p.turns 0 (λ i x at. let z : i ≡ 0 + i = omega arith in (p.numbered i x at ∙ z, p.records_are i x at ∙ ap (λ k. record_of k p.turns) z)) ∙ ap (records_words p.turns 0) many in
     record {
-      turns = p.turns;
-      played = p.played;
-      legal_log = legal_log s p.turns p.played;
-      legal_records = λ r. legal_record s r p.turns p.played;
-      ends = record { how = run.ending; is = p.ends; said = c.status_of-status.ensures ∙ ap (status_of run.ending) (c.len.ensures ∙ ap length p.log_is) };
-      words = printed
-          ∙ ap (λ l. log_words l ++ (flat_map worker_words run.workers.items ++ status_words st)) p.log_is
-          ∙ ap (λ w. log_words (log_of s p.turns) ++ (w ++ status_words st)) records;
+      run = record {
+        turns = p.turns;
+        played = p.played;
+        legal_log = legal_log s p.turns p.played;
+        legal_records = λ r. legal_record s r p.turns p.played;
+        ends = record { how = run.ending; is = p.ends; said = c.status_of-status.ensures ∙ ap (status_of run.ending) (c.len.ensures ∙ ap length p.log_is) };
+        words = printed
+            ∙ ap (λ l. log_words l ++ (flat_map worker_words run.workers.items ++ status_words st)) p.log_is
+            ∙ ap (λ w. log_words (log_of s p.turns) ++ (w ++ status_words st)) records;
+      };
     }
-
-pub returns-clause-done : goal.returns-clause-done
-returns-clause-done c =
-    let p = c.in_ok-run.ensures in
-    c.status_of-status.ensures ∙ ap (λ how. status_of how c.len.result) (ends_done c.args.session.now c.requires.range p.turns p.played c.in_ok-run.run'.ending p.ends)

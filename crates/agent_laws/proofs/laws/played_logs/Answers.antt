@@ -1,0 +1,24 @@
+-- The log of a play.
+use Rattle.agent_laws.proofs.Lengths.{played_length, played_bounded}
+use Rattle.agent_laws.proofs.Played.{played_admitted, played_actors}
+use Rattle.agent_laws.proofs.ClosedLogs.{closed_played}
+use Rattle.agent_laws.proofs.PlayedHomes.{played_homes, played_seen}
+use Rattle.agent_laws.proofs.laws.played_logs.Goals as goal
+
+pub returns-clause-short : goal.returns-clause-short
+returns-clause-short c = played_length
+
+pub returns-clause-admitted : goal.returns-clause-admitted
+returns-clause-admitted c = λ s turns played few. played_admitted s turns played (played_bounded s turns played few)
+
+pub returns-clause-actors : goal.returns-clause-actors
+returns-clause-actors c = λ s turns played few. played_actors s turns played (played_bounded s turns played few)
+
+pub returns-clause-homes : goal.returns-clause-homes
+returns-clause-homes c = λ s turns played few. played_homes s turns played (played_bounded s turns played few)
+
+pub returns-clause-seen : goal.returns-clause-seen
+returns-clause-seen c = λ s turns played few. played_seen s turns played (played_bounded s turns played few)
+
+pub returns-clause-closed : goal.returns-clause-closed
+returns-clause-closed c = λ s turns played few. closed_played s turns played (played_bounded s turns played few)

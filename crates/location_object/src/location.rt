@@ -1,0 +1,83 @@
+ghost use Rattle.std.specs.Prelude.{◌≡◌, ◌<◌};
+ghost use Rattle.single_agent.specs.LocationAccess as spec;
+
+use crate::attributes::{location_set, location_value};
+use crate::sending::send;
+use single_agent::Outcome;
+use std::alloc::{AllocError, Global};
+use tree_view::View;
+use window_props::{Key, Kind, Method, Object, Value, named};
+use window_proxy::Met;
+use window_proxy::values::undefined;
+
+/// The Location of a document, as a document meets it.
+#[derive(Drop)]
+pub struct LocationMet<'a, V> {
+    pub view: &'a V,
+    pub asker: u32,
+    pub doc: u32,
+}
+
+#[tactic(auto, unfolding(single_agent::specs::LocationAccess::location))]
+impl<'a, V: View> Met for LocationMet<'a, V> {
+    ghost tree = { λ m. V.tree m.view.now };
+
+    ghost urls = { λ m. V.urls m.view.now };
+
+    ghost asker = { λ m. m.asker };
+
+    ghost seen = { λ m. spec.location (V.tree m.view.now) (V.urls m.view.now) m.asker m.doc };
+
+    ghost fits = { λ m. (m.asker < (V.tree m.view.now).docs) × (m.doc < (V.tree m.view.now).docs) };
+
+    fn is_own(&self) -> bool {
+        self.view.same_domain(self.asker, self.doc)
+    }
+
+    fn object(&self) -> Object {
+        Object::Location(self.doc)
+    }
+
+    fn kind(&self) -> Kind {
+        Kind::Location
+    }
+
+    fn count(&self) -> u32 {
+        0
+    }
+
+    fn index(&self, _key: &Key) -> Option<u32> {
+        None
+    }
+
+    fn child(&self, _index: u32) -> Option<u32> {
+        None
+    }
+
+    fn child_named(&self, _key: &Key) -> Option<u32> {
+        None
+    }
+
+    fn getter(&self, alloc: Global, key: &Key) -> Result<Value, AllocError> {
+        match named(self.object(), key) {
+            None => Ok(undefined()),
+            Some(name) => location_value(alloc, self.view, self.doc, name),
+        }
+    }
+
+    fn setter(&self, alloc: Global, key: &Key, value: &Value) -> Result<Outcome, AllocError> {
+        match named(self.object(), key) {
+            None => Ok(Outcome::Truth(false)),
+            Some(name) => location_set(alloc, self.view, self.asker, self.doc, name, value),
+        }
+    }
+
+    fn run(&self, alloc: Global, method: Method, args: &[Value]) -> Result<Outcome, AllocError> {
+        match method {
+            Method::Assign | Method::Replace => send(alloc, self.view, self.asker, self.doc, args),
+            Method::Close | Method::Focus | Method::Blur | Method::PostMessage => {
+                Ok(Outcome::TypeFault)
+            }
+        }
+    }
+}

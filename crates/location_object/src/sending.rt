@@ -1,0 +1,68 @@
+//! `assign` and `replace` (HTML Standard, 7.2.4).
+ghost use Rattle.std.specs.Prelude.{◌≡◌, ◌<◌, IfOk};
+ghost use Rattle.single_agent.specs.Going.{go, or_else_outcome};
+ghost use Rattle.single_agent.specs.Methods.{sent};
+ghost use Rattle.single_agent.specs.Values.{undefined};
+
+use single_agent::Outcome;
+use std::alloc::{AllocError, Global};
+use tree_view::View;
+use window_props::Value;
+use window_proxy::go;
+use window_proxy::values::{text_of, undefined};
+
+/// What `assign` on a document's Location answers: undefined where the document isn't active, and else `Ask`, `Syntax` or
+/// `SchemeOut`.
+pub fn assign<V: View>(
+    alloc: Global,
+    view: &V,
+    asker: u32,
+    doc: u32,
+    text: &str,
+) -> Result<Outcome, AllocError>
+    requires asker { asker < (V.tree view.now).docs }
+    requires doc { doc < (V.tree view.now).docs }
+    ensures { IfOk result (λ o. o ≡ or_else_outcome (Outcome.Value undefined) (go (V.tree view.now) (V.urls view.now) asker doc text.now)) }
+{
+    match go(alloc, view, asker, doc, text)? {
+        None => Ok(Outcome::Value(undefined())),
+        Some(outcome) => Ok(outcome),
+    }
+}
+
+/// What `replace` on a document's Location answers. The session history isn't told of, so it is as [`assign`].
+pub fn replace<V: View>(
+    alloc: Global,
+    view: &V,
+    asker: u32,
+    doc: u32,
+    text: &str,
+) -> Result<Outcome, AllocError>
+    requires asker { asker < (V.tree view.now).docs }
+    requires doc { doc < (V.tree view.now).docs }
+    ensures { IfOk result (λ o. o ≡ or_else_outcome (Outcome.Value undefined) (go (V.tree view.now) (V.urls view.now) asker doc text.now)) }
+{
+    assign(alloc, view, asker, doc, text)
+}
+
+/// What a call of `assign` or `replace` on a document's Location comes to: the first argument's text counts.
+#[tactic(auto, unfolding(single_agent::specs::Methods::sent))]
+pub(crate) fn send<V: View>(
+    alloc: Global,
+    view: &V,
+    asker: u32,
+    doc: u32,
+    args: &[Value],
+) -> Result<Outcome, AllocError>
+    requires asker { asker < (V.tree view.now).docs }
+    requires doc { doc < (V.tree view.now).docs }
+    ensures { IfOk result (λ o. o ≡ sent (V.tree view.now) (V.urls view.now) asker doc args.now) }
+{
+    match args {
+        [] => Ok(Outcome::TypeFault),
+        [url, ..] => match text_of(alloc, url)? {
+            None => Ok(Outcome::TypeFault),
+            Some(text) => assign(alloc, view, asker, doc, text.as_str()),
+        },
+    }
+}

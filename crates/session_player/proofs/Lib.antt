@@ -1,0 +1,16 @@
+pub mod FirstTask
+pub mod Leaves
+pub mod There
+pub mod Results
+pub mod Asking
+pub mod Entries
+pub mod Growth
+pub mod Few
+pub mod Asked
+pub mod Stepping
+pub mod Sound
+pub mod Hearing
+pub mod Keeping
+pub mod Turning
+pub mod Rounds
+pub mod Begins

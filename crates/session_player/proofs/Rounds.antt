@@ -1,0 +1,190 @@
+-- Whose turn is next.
+use Rattle.std.proofs.Common.{◌≡◌, ℕ, suc, ◌+◌, ◌-◌, ◌*◌, ◌<◌, ◌≤◌, List, [], ◌∷◌, ◌++◌, length, take, Option, Some, None, Bool, true, false, not, refl, sym, ap, subst, ◌∙◌, arith, add-one, inl, inr}
+use Rattle.std.specs.Prelude.{slice_get, nat_lt, ◌==◌, ◌&&◌, ◌||◌, if◌then◌else◌}
+use Rattle.std.specs.List.{list_any}
+use Rattle.std.proofs.lemmas.Bool.{cases_lt, ne_eqb}
+use Rattle.std.proofs.lemmas.Bool.Decides.{nat_tests, eqb_tells}
+use Rattle.std.proofs.lemmas.Nat.{mod-mul-add}
+use Rattle.std.proofs.Math.Nat.{mul-mod_left}
+use Rattle.tree_log.specs.declared.entry.Entry.{Entry}
+use Rattle.single_agent.specs.declared.session.Session.{Session}
+use Rattle.single_agent.specs.declared.act.Act.{Act}
+use Rattle.single_agent.specs.declared.act.Move.TheVariants.{Takes}
+use Rattle.single_agent.specs.declared.act.Ending.TheVariants as ending
+use Rattle.single_agent.specs.NextTask.{next_task}
+use Rattle.single_agent.specs.NextAct.{step_left, next_move}
+use Rattle.single_agent.specs.Turns.{Turned, has_act, is_some_act, next_renderer, next_in_rounds, log_of, record_of, told_of, with_act, Plays, IsTurn, Rests}
+use Rattle.session_player.specs.declared.worker.Turn.TheVariants.{Acted, Idle}
+use Rattle.session_player.specs.declared.playing.Round.TheVariants as round
+use Rattle.session_player.specs.Serves.{Ledger}
+use Rattle.session_player.specs.Underway.{Seat, IsUnderway, acts_left, TurnEnds, AtRound, RoundEnds}
+use Rattle.session_player.proofs.Keeping.{none_left}
+
+lt_true : (a b : ℕ) → a < b → nat_lt a b ≡ true
+lt_true a b h = grind (arith, nat_tests)
+
+lt_false : (a b : ℕ) → b ≤ a → nat_lt a b ≡ false
+lt_false a b h = grind (arith, nat_tests)
+
+past_order : (s : Session) (turns : List Turned) (made : ℕ) → length turns ≡ length s.order + made → next_renderer s turns ≡ next_in_rounds s.renderers made turns
+unfolding next_renderer
+past_order s turns made e =
+    let f : nat_lt (length turns) (length s.order) ≡ false = lt_false (length turns) (length s.order) (omega arith) in
+    let g : length turns - length s.order ≡ made = omega arith in
+    rw f (ap (λ k. next_in_rounds s.renderers k turns) g)
+
+-- within a round
+pub due_within : (s : Session) (turns : List Turned) (k j : ℕ) → length turns ≡ length s.order + (k * s.renderers + j) → 0 < j → j < s.renderers → next_renderer s turns ≡ Some j
+due_within s turns k j e pos lt =
+    past_order s turns (k * s.renderers + j) e
+    ∙ ap (λ q. if (q == 0) && nat_lt 0 (k * s.renderers + j) && not (list_any has_act (take s.renderers turns)) then None else Some q) (mod-mul-add k s.renderers j lt)
+    ∙ ap (λ b. if b && nat_lt 0 (k * s.renderers + j) && not (list_any has_act (take s.renderers turns)) then None else Some j) (ne_eqb j 0 (λ z. absurd (omega arith)))
+
+-- after a round
+after_round : (s : Session) (turns : List Turned) (k : ℕ) → 0 < s.renderers → length turns ≡ length s.order + suc k * s.renderers
+    → next_renderer s turns ≡ (if not (list_any has_act (take s.renderers turns)) then None else Some 0)
+after_round s turns k some e =
+    let big : 0 < suc k * s.renderers = grind arith in
+    past_order s turns (suc k * s.renderers) e
+    ∙ ap (λ q. if (q == 0) && nat_lt 0 (suc k * s.renderers) && not (list_any has_act (take s.renderers turns)) then None else Some q) (mul-mod_left (suc k) s.renderers)
+    ∙ ap (λ b. if b && not (list_any has_act (take s.renderers turns)) then None else Some 0) (lt_true 0 (suc k * s.renderers) big)
+
+pub due_order : (s : Session) (turns : List Turned) (i n : ℕ) → length turns ≡ i → slice_get s.order i ≡ Some n → i < length s.order → next_renderer s turns ≡ Some n
+unfolding next_renderer
+due_order s turns i n e at lt =
+    let f : nat_lt (length turns) (length s.order) ≡ true = lt_true (length turns) (length s.order) (omega arith) in
+    rw f (ap (slice_get s.order) e ∙ at)
+
+pub due_first : (s : Session) (turns : List Turned) → 0 < s.renderers → length turns ≡ length s.order → AtRound s turns
+due_first s turns some e = record {
+  rounds = 0;
+  count = omega arith;
+  due =
+      past_order s turns (0 * s.renderers + 0) (omega arith)
+      ∙ ap (λ q. if (q == 0) && nat_lt 0 (0 * s.renderers + 0) && not (list_any has_act (take s.renderers turns)) then None else Some q) (mod-mul-add 0 s.renderers 0 some)
+      ∙ ap (λ b. if b && not (list_any has_act (take s.renderers turns)) then None else Some 0) (lt_false 0 (0 * s.renderers + 0) (omega arith));
+}
+
+-- the turns of a round so far
+pub record InRound (s : Session) (old : List Seat) (number : ℕ) (acted : Bool) (l : Ledger) (seats : List Seat) : Type 0 where
+  pub turns : List Turned
+  pub underway : IsUnderway s turns l seats
+  pub rounds : ℕ
+  pub count : length turns ≡ length s.order + (rounds * s.renderers + number)
+  pub flag : list_any has_act (take number turns) ≡ acted
+  pub due : number < s.renderers → next_renderer s turns ≡ Some number
+  pub least : acts_left seats ≤ acts_left old
+  pub less : acted ≡ true → acts_left seats < acts_left old
+  pub rest : acted ≡ false → (r : ℕ) → r < number → Rests s turns r
+
+flag_more : (number : ℕ) (t : Turned) (turns : List Turned) (b a : Bool) → has_act t ≡ b → list_any has_act (take number turns) ≡ a → list_any has_act (take (number + 1) (t ∷ turns)) ≡ (b || a)
+flag_more number t turns b a p q =
+    ap (λ k. list_any has_act (take k (t ∷ turns))) (add-one number) ∙ ap (λ x. x || list_any has_act (take number turns)) p ∙ ap (λ x. b || x) q
+
+idle_plays : (s : Session) (r : ℕ) (log : List Entry) (acts : List Act) (told : ℕ) (act : Option Act) (own : List Entry) → Plays s r log acts told act own → is_some_act act ≡ false
+    → (next_move s log acts ≡ Takes) × (next_task log r ≡ None) × (own ≡ []) × (act ≡ None)
+idle_plays s r log acts told None own h e = (h.0, h.1, h.2, refl)
+idle_plays s r log acts told (Some a) own h e = absurd cc
+
+idle_turn : (s : Session) (turns : List Turned) (t : Turned) → IsTurn s turns t → has_act t ≡ false
+    → (next_move s (log_of s turns) (record_of t.renderer turns) ≡ Takes) × (next_task (log_of s turns) t.renderer ≡ None) × (t.own ≡ []) × (t.act ≡ None)
+idle_turn s turns t h e = idle_plays s t.renderer (log_of s turns) (record_of t.renderer turns) (told_of s t.renderer turns) t.act t.own h.plays e
+
+same_record : (r : ℕ) (t : Turned) (turns : List Turned) → t.act ≡ None → record_of r turns ≡ record_of r (t ∷ turns)
+unfolding record_of
+same_record r t turns e = elim (eqb_tells t.renderer r) [ inl p ↦ rw p.0 (sym (ap (λ a. with_act a (record_of r turns)) e)) | inr p ↦ rw p.0 refl ]
+
+same_log : (s : Session) (t : Turned) (turns : List Turned) → t.own ≡ [] → log_of s turns ≡ log_of s (t ∷ turns)
+unfolding log_of
+same_log s t turns e = sym (ap (λ (o : List Entry). o ++ log_of s turns) e)
+
+still_rests : (s : Session) (turns : List Turned) (t : Turned) (r : ℕ) → t.own ≡ [] → t.act ≡ None → Rests s turns r → Rests s (t ∷ turns) r
+still_rests s turns t r own act h =
+    let log = same_log s t turns own in
+    let acts = same_record r t turns act in (
+      subst (λ (g : List Entry). next_task g r ≡ None) log h.0,
+      subst (λ (g : List Entry). step_left s g (record_of r (t ∷ turns)) ≡ None) log (subst (λ (a : List Act). step_left s (log_of s turns) a ≡ None) acts h.1),
+    )
+
+pub round_begins : (s : Session) (turns : List Turned) (l : Ledger) (seats : List Seat) → IsUnderway s turns l seats → AtRound s turns → InRound s seats 0 false l seats
+round_begins s turns l seats u at = record {
+  turns = turns;
+  underway = u;
+  rounds = at.rounds;
+  count = omega (arith, at.count);
+  flag = refl;
+  due = λ h. at.due;
+  least = omega arith;
+  less = λ e. absurd cc;
+  rest = λ e r lt. absurd (omega arith);
+}
+
+pub round_acted : (s : Session) (old : List Seat) (number : ℕ) (acted : Bool) (l m : Ledger) (seats seats' : List Seat) → (h : InRound s old number acted l seats) → TurnEnds s h.turns number seats Acted m seats'
+    → InRound s old (number + 1) true m seats'
+round_acted s old number acted l m seats seats' h e =
+    let count : length (e.0 ∷ h.turns) ≡ length s.order + (h.rounds * s.renderers + (number + 1)) = omega (arith, h.count) in
+    record {
+      turns = e.0 ∷ h.turns;
+      underway = e.3;
+      rounds = h.rounds;
+      count = count;
+      flag = flag_more number e.0 h.turns true acted e.2 h.flag;
+      due = λ lt. due_within s (e.0 ∷ h.turns) h.rounds (number + 1) count (omega arith) lt;
+      least = omega (arith, e.4, h.least);
+      less = λ q. omega (arith, e.4, h.least);
+      rest = λ q. absurd cc;
+    }
+
+pub round_idle : (s : Session) (old : List Seat) (number : ℕ) (acted : Bool) (l m : Ledger) (seats seats' : List Seat) → (h : InRound s old number acted l seats) → TurnEnds s h.turns number seats Idle m seats'
+    → InRound s old (number + 1) acted m seats'
+round_idle s old number acted l m seats seats' h e =
+    let count : length (e.0 ∷ h.turns) ≡ length s.order + (h.rounds * s.renderers + (number + 1)) = omega (arith, h.count) in
+    record {
+      turns = e.0 ∷ h.turns;
+      underway = e.3;
+      rounds = h.rounds;
+      count = count;
+      flag = flag_more number e.0 h.turns false acted e.2 h.flag;
+      due = λ lt. due_within s (e.0 ∷ h.turns) h.rounds (number + 1) count (omega arith) lt;
+      least = omega (arith, e.4, h.least);
+      less = λ q. omega (arith, e.4, h.less q);
+      rest = λ q r lt.
+          let idle = idle_turn s h.turns e.0 e.3.played.0 e.2 in
+          still_rests s h.turns e.0 r idle.2 idle.3 (elim (cases_lt r number) [
+            | inl below ↦ h.rest q r below
+            | inr above ↦
+                let same : e.0.renderer ≡ r = omega (arith, e.1) in
+                subst (Rests s h.turns) same (idle.1, none_left s (log_of s h.turns) (record_of e.0.renderer h.turns) idle.0)
+          ]);
+    }
+
+whole_round : (s : Session) (old : List Seat) (number : ℕ) (acted : Bool) (l : Ledger) (seats : List Seat) → (h : InRound s old number acted l seats) → number ≡ s.renderers → 0 < s.renderers
+    → next_renderer s h.turns ≡ (if not acted then None else Some 0)
+whole_round s old number acted l seats h e some =
+    after_round s h.turns h.rounds some (h.count ∙ ap (λ k. length s.order + (h.rounds * s.renderers + k)) e ∙ (grind arith))
+    ∙ ap (λ b. if not b then None else Some 0) (ap (λ k. list_any has_act (take k h.turns)) (sym e) ∙ h.flag)
+
+round_quiet : (s : Session) (old : List Seat) (number : ℕ) (l : Ledger) (seats : List Seat) → InRound s old number false l seats → number ≡ s.renderers → 0 < s.renderers → RoundEnds s old (round.Ended ending.Done) l seats
+round_quiet s old number l seats h e some = (h.turns, h.underway, (whole_round s old number false l seats h e some, λ r lt. h.rest refl r (omega arith)))
+
+round_goes_on : (s : Session) (old : List Seat) (number : ℕ) (l : Ledger) (seats : List Seat) → InRound s old number true l seats → number ≡ s.renderers → 0 < s.renderers → RoundEnds s old round.Acted l seats
+round_goes_on s old number l seats h e some =
+    (h.turns, h.underway, record { rounds = suc h.rounds; count = h.count ∙ ap (λ k. length s.order + (h.rounds * s.renderers + k)) e ∙ (grind arith); due = whole_round s old number true l seats h e some }, h.less refl)
+
+pub ends_quiet : (s : Session) (old : List Seat) (number : ℕ) (acted : Bool) (l : Ledger) (seats : List Seat) → acted ≡ false → (h : InRound s old number acted l seats) → number ≡ length seats → 0 < s.renderers
+    → RoundEnds s old (round.Ended ending.Done) l seats
+ends_quiet s old number true l seats e h n some = absurd cc
+ends_quiet s old number false l seats e h n some = round_quiet s old number l seats h (n ∙ h.underway.count) some
+
+pub ends_acted : (s : Session) (old : List Seat) (number : ℕ) (acted : Bool) (l : Ledger) (seats : List Seat) → acted ≡ true → (h : InRound s old number acted l seats) → number ≡ length seats → 0 < s.renderers → RoundEnds s old round.Acted l seats
+ends_acted s old number false l seats e h n some = absurd cc
+ends_acted s old number true l seats e h n some = round_goes_on s old number l seats h (n ∙ h.underway.count) some
+
+-- the turns of the order so far
+pub record InOrder (s : Session) (i : ℕ) (l : Ledger) (seats : List Seat) : Type 0 where
+  pub turns : List Turned
+  pub underway : IsUnderway s turns l seats
+  pub count : length turns ≡ i
+
+pub order_goes_on : (s : Session) (i : ℕ) (old : List Seat) (l m : Ledger) (seats : List Seat) → (h : InOrder s i l old) → (t : Turned) → IsUnderway s (t ∷ h.turns) m seats → InOrder s (i + 1) m seats
+order_goes_on s i old l m seats h t e = record { turns = t ∷ h.turns; underway = e; count = omega (arith, h.count) }

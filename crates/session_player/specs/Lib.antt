@@ -1,0 +1,6 @@
+pub mod Growing
+pub mod There
+pub mod Serves
+pub mod Steps
+pub mod Underway
+pub mod ThereProps

@@ -1,0 +1,7 @@
+pub mod DataLimits
+pub mod Names
+pub mod PathText
+pub mod PlainData
+pub mod Reading
+pub mod Refusing
+pub mod Tidy

@@ -1,7 +1,0 @@
-use Rattle.std.proofs.Common.{◌≡◌, None}
-use Rattle.tree_log.specs.Log.{prefix}
-use Rattle.single_agent.specs.NextTask.{first_task}
-use Rattle.winproxy_cmd.proofs.desk.first_task.Given as goal
-
-abbrev pub invariant-loop-place : goal.invariant-loop-place
-invariant-loop-place g l = first_task (g.V.View.tree l.view) l.renderer (prefix l.place l.log.entries) ≡ None
