@@ -1,0 +1,46 @@
+//! Worked rows: what the definitions of `single_agent` and `tree_log` give on small logs, each computed.
+//!
+//! The rows stand in `specs/`, and those on messages in `proofs/`, a file for each topic. Nothing here runs, and nothing stands on this crate.
+#![tactic(auto)]
+
+ghost use Rattle.agent_rows.specs.Blanking.{message, sandboxed};
+ghost use Rattle.agent_rows.specs.Coordinator.{answered, only, two_groups, posting, home_of_new};
+ghost use Rattle.agent_rows.specs.ForeignWindow.{got_at, with_then};
+ghost use Rattle.agent_rows.specs.Logs.{site, a_test, framed};
+ghost use Rattle.agent_rows.specs.NamedChildren.{reached, two_frames, first_is_own};
+ghost use Rattle.agent_rows.specs.Navigating.{chosen, two_windows, goes, some_words};
+ghost use Rattle.agent_rows.specs.Navigating as navigating;
+ghost use Rattle.single_agent.specs.Decision.{one};
+ghost use Rattle.single_agent.specs.Methods.{posted};
+ghost use Rattle.single_agent.specs.Navigation.{New};
+ghost use Rattle.single_agent.specs.NextAct.{shown_to};
+ghost use Rattle.single_agent.specs.declared.outcome.Outcome.TheVariants as outcome;
+ghost use Rattle.single_agent.specs.declared.outcome.Rule.TheVariants.{S1, S2};
+ghost use Rattle.single_agent.specs.declared.request.ReplyOutcome.TheVariants as reply;
+ghost use Rattle.single_agent.specs.declared.request.Request.TheVariants as ask;
+ghost use Rattle.std.specs.Prelude.{◌≡◌, ◌∷◌, [], Some, None, false, codes};
+ghost use Rattle.tree_log.specs.Admits.{AreAdmitted};
+ghost use Rattle.tree_log.specs.Blanking.{hidden};
+ghost use Rattle.tree_log.specs.Urls.{url_of};
+ghost use Rattle.tree_log.specs.declared.entry.What.TheVariants as what;
+ghost use Rattle.window_props.specs.declared.value.Value.TheVariants as value;
+
+/// It does nothing: its contract is a row or two of each file.
+#[tactic(auto, using(crate::proofs::Cited::foreign_rows, crate::proofs::Cited::coordinator_rows, crate::proofs::Cited::shown_rows))]
+pub fn rows()
+    ensures admitted { AreAdmitted framed }
+    ensures parent { got_at framed 1 (codes "parent") ≡ outcome.Value (value.Window 0) }
+    ensures name { got_at framed 1 (codes "name") ≡ outcome.Security S1 }
+    ensures index { got_at with_then 1 (codes "1") ≡ outcome.Security S2 }
+    ensures then_frame { got_at with_then 1 (codes "then") ≡ outcome.Value (value.Window 2) }
+    ensures foreign_first { reached two_frames ≡ None }
+    ensures own_first { reached first_is_own ≡ Some 1 }
+    ensures passed { chosen two_windows 1 (codes "main") ≡ New }
+    ensures refused { goes 1 3 (navigating.sandboxed some_words) 1 false ≡ one 1 3 what.Sync (reply.Security 7) }
+    ensures unloaded { answered framed 0 (ask.Sync 2) ≡ only (reply.Unloaded 3) }
+    ensures not_near { answered two_groups 0 (posting 3) ≡ one 0 1 what.Sync reply.Done }
+    ensures home { home_of_new (site (codes "c.test")) ≡ 2 }
+    ensures no_argument { posted a_test 3 [] ≡ outcome.TypeFault }
+    ensures hidden_message { shown_to 1 (message ∷ framed) ≡ hidden ∷ shown_to 1 framed }
+    ensures hidden_url { url_of (shown_to 1 sandboxed) 3 ≡ codes "about:blank" }
+{}
