@@ -1,0 +1,10 @@
+pub mod FrameLaws
+pub mod EntryLaws
+pub mod RequestLaws
+pub mod RequestFrames
+pub mod ReplyLaws
+pub mod ReplyFrames
+pub mod Writes
+pub mod HeadLaws
+pub mod StreamLaws
+pub mod PieceLaws

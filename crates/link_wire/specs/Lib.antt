@@ -1,0 +1,10 @@
+pub mod Bad
+pub mod Frames
+pub mod Parts
+pub mod Requests
+pub mod Entries
+pub mod ReplyParts
+pub mod Replies
+pub mod Feeding
+pub mod Streams
+pub mod Links

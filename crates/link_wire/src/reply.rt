@@ -1,0 +1,26 @@
+use single_agent::ReplyOutcome;
+use std::marker::Model;
+use tree_log::Entry;
+
+/// What the coordinator answers: the outcome, and the entries from a place of the log on that it tells.
+///
+/// Contracts see it as its outcome, the place and the list of the entries, the oldest first.
+#[derive(Drop)]
+pub struct Reply {
+    pub outcome: ReplyOutcome,
+    /// The place of the first entry of the news.
+    pub from: u32,
+    pub news: Vec<Entry>,
+}
+
+impl Model for Reply {
+    ghost use Rattle.link_wire.specs.ReplyParts.{ReplyParts, reply_view};
+    ghost use Rattle.plain_data.specs.contracts.data.Data as plain;
+    ghost use Rattle.std.specs.Coded.{codes};
+
+    ghost Value = { ReplyParts };
+
+    ghost coded = { Prim.hlevel (codes, plain.the_row.coded) };
+
+    ghost view = { reply_view };
+}
