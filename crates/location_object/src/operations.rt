@@ -4,6 +4,7 @@ ghost use Rattle.window_props.specs.Ordinary.{Define, Set, Delete};
 ghost use Rattle.single_agent.specs.Access as spec;
 ghost use Rattle.single_agent.specs.Methods.{called};
 ghost use Rattle.single_agent.specs.LocationAccess.{location};
+ghost use Rattle.window_proxy.specs.Verdict as ruling;
 
 use crate::location::LocationMet;
 use single_agent::{Op, Outcome, Ruling};
@@ -16,7 +17,7 @@ use window_proxy::access;
 pub fn verdict<V: View>(view: &V, asker: u32, doc: u32, op: Op, key: &Key) -> Ruling
     requires asker { asker < (V.tree view.now).docs }
     requires doc { doc < (V.tree view.now).docs }
-    ensures { result ≡ spec.verdict (location (V.tree view.now) (V.urls view.now) asker doc) op key.now }
+    ensures { result ≡ ruling.verdict (location (V.tree view.now) (V.urls view.now) asker doc) op key.now }
 {
     access::verdict(&LocationMet { view, asker, doc }, op, key)
 }

@@ -7,15 +7,17 @@ use Rattle.std.proofs.lemmas.Bool.Decides.{nat_tests}
 use Rattle.tree_log.specs.declared.entry.Entry.{Entry}
 use Rattle.tree_log.specs.declared.entry.Load.{Load}
 use Rattle.tree_log.specs.declared.entry.What.{What}
-use Rattle.tree_log.specs.declared.entry.What.TheVariants.{Open, Frame, Drop, Begin, Commit, Sync}
+use Rattle.tree_log.specs.declared.entry.Target.{Target}
+use Rattle.tree_log.specs.declared.entry.Cause.TheVariants as causes
+use Rattle.tree_log.specs.declared.entry.What.TheVariants.{Open, Frame, Drop, Begin, Commit, Post, Fire, Lapse, Closing, Gone, Sync}
 use Rattle.tree_log.specs.Log.{is}
 use Rattle.tree_log.specs.Facts.{or_else}
-use Rattle.tree_log.specs.Tree.{Tree, tree_of, nav_of, is_discarded, is_active}
+use Rattle.tree_log.specs.Tree.{Tree, tree_of, nav_of, home_of, origin_of, is_discarded, is_active}
 use Rattle.tree_log.specs.Admits.{has, is_next, is_next_load, admits_what, admits, AreAdmitted}
-use Rattle.tree_log.proofs.Admitted.{both, StandsFor, StandsIfAny, LoadsStand, AllStand, loads_stand, few_of}
+use Rattle.tree_log.proofs.Admitted.{both, StandsFor, StandsIfAny, TaskStands, AllStand, tasks_stand, few_of}
 use Rattle.single_agent.specs.declared.session.Session.{Session}
 use Rattle.single_agent.specs.Session.{starts_of, started, start_entry}
-use Rattle.single_agent.specs.NextTask.{load_waits, load_task, task_of, first_task, next_task, task_entry}
+use Rattle.single_agent.specs.NextTask.{load_waits, load_task, is_for, delivery, task_of, first_task, next_task, is_over, task_entry}
 use Rattle.single_agent.specs.Decision.{Rules, rules_of, by, framed, frame_load, load_for, group_in}
 
 lt_true : (a b : ℕ) → a < b → nat_lt a b ≡ true
@@ -47,22 +49,44 @@ load_admitted : (t : Tree) (r place nav : ℕ) (load : Option Load) (what : What
 load_admitted t r place nav None what s h = absurd cc
 load_admitted t r place nav (Some load) what s h = waiting_admitted t r place nav load what (load_waits t r nav load) refl s h
 
-task_of_admitted : (t : Tree) (r place : ℕ) (w what : What) → LoadsStand t w → task_of t r place w ≡ Some what → admits_what t (Some r) None what ≡ true
-task_of_admitted t r place (Open nav _ _ _ _ _ _ _ _ load) what s h = load_admitted t r place nav load what s h
-task_of_admitted t r place (Frame nav _ _ _ _ _ load) what s h = load_admitted t r place nav load what s h
-task_of_admitted t r place (Begin nav load) what s h = load_admitted t r place nav (Some load) what s h
-task_of_admitted t r place _ what s h = absurd cc
+-- a message fires or lapses at a document that is there
+delivered_admitted : (t : Tree) (r place to : ℕ) (target : Target) (quiet fits : Bool) → to < t.docs
+    → admits_what t (Some r) None (if quiet then Lapse to place causes.Inactive else if fits then Fire to place else Lapse to place causes.Origin) ≡ true
+delivered_admitted t r place to target true fits s = rw (lt_true to t.docs s) refl
+delivered_admitted t r place to target false true s = rw (lt_true to t.docs s) refl
+delivered_admitted t r place to target false false s = rw (lt_true to t.docs s) refl
+
+message_admitted : (t : Tree) (r place to : ℕ) (target : Target) (b : Bool) (what : What) → to < t.docs
+    → (if b then Some (delivery t place to target) else None) ≡ Some what → admits_what t (Some r) None what ≡ true
+message_admitted t r place to target false what s h = absurd cc
+message_admitted t r place to target true what s h =
+    let same : delivery t place to target ≡ what = cc in
+    subst (λ (w : What). admits_what t (Some r) None w ≡ true) same (delivered_admitted t r place to target (not (is_active t to)) (is_for target (origin_of t to)) s)
+
+closing_admitted : (t : Tree) (r nav : ℕ) (b : Bool) (what : What) → nav < t.navs → (if b then Some (Gone nav) else None) ≡ Some what → admits_what t (Some r) None what ≡ true
+closing_admitted t r nav false what s h = absurd cc
+closing_admitted t r nav true what s h =
+    let same : Gone nav ≡ what = cc in
+    subst (λ (w : What). admits_what t (Some r) None w ≡ true) same (rw (lt_true nav t.navs s) refl)
+
+task_of_admitted : (t : Tree) (over : ℕ → ℕ → Bool) (r place : ℕ) (w what : What) → TaskStands t w → task_of t over r place w ≡ Some what → admits_what t (Some r) None what ≡ true
+task_of_admitted t over r place (Open nav _ _ _ _ _ _ _ _ load) what s h = load_admitted t r place nav load what s h
+task_of_admitted t over r place (Frame nav _ _ _ _ _ load) what s h = load_admitted t r place nav load what s h
+task_of_admitted t over r place (Begin nav load) what s h = load_admitted t r place nav (Some load) what s h
+task_of_admitted t over r place (Post to _ _ target _) what s h = message_admitted t r place to target (home_of t to == r && not (over to place)) what s h
+task_of_admitted t over r place (Closing nav) what s h = closing_admitted t r nav (home_of t (t.nav nav).active == r && not (is_discarded t nav)) what s h
+task_of_admitted t over r place _ what s h = absurd cc
 
 either_is : (a b : Option What) (what : What) → or_else a b ≡ Some what → (a ≡ Some what) ⊎ (b ≡ Some what)
 either_is (Some w) b what h = inl h
 either_is None b what h = inr h
 
-first_admitted : (t : Tree) (r : ℕ) (log : List Entry) (what : What) → AllStand t log → first_task t r log ≡ Some what → admits_what t (Some r) None what ≡ true
-first_admitted t r [] what s h = absurd cc
-first_admitted t r (e ∷ older) what s h =
-    elim (either_is (first_task t r older) (task_of t r (length older) e.what) what h) [
-      | inl p ↦ first_admitted t r older what s.1 p
-      | inr p ↦ task_of_admitted t r (length older) e.what what s.0 p
+first_admitted : (t : Tree) (over : ℕ → ℕ → Bool) (r : ℕ) (log : List Entry) (what : What) → AllStand t log → first_task t over r log ≡ Some what → admits_what t (Some r) None what ≡ true
+first_admitted t over r [] what s h = absurd cc
+first_admitted t over r (e ∷ older) what s h =
+    elim (either_is (first_task t over r older) (task_of t over r (length older) e.what) what h) [
+      | inl p ↦ first_admitted t over r older what s.1 p
+      | inr p ↦ task_of_admitted t over r (length older) e.what what s.0 p
     ]
 
 -- the entry of a next task can follow the log
@@ -70,7 +94,7 @@ pub task_admitted : (log : List Entry) (r : ℕ) (what : What) → AreAdmitted l
 unfolding next_task admits
 task_admitted log r what all few h =
     let len = (few_of log).len in
-    rw (lt_true (tree_of log).len 4294967295 (omega arith), first_admitted (tree_of log) r log what (loads_stand log all) h) refl
+    rw (lt_true (tree_of log).len 4294967295 (omega arith), first_admitted (tree_of log) (is_over log) r log what (tasks_stand log all) h) refl
 
 -- THE START WINDOWS
 

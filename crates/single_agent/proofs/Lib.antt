@@ -1,6 +1,7 @@
 pub mod Made
 pub mod Grown
 pub mod Legal
+pub mod Heard
 pub mod Played
 pub mod Determined
 pub mod Admitted

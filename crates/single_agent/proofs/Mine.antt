@@ -5,17 +5,17 @@ use Rattle.std.specs.Prelude.{◌&&◌, ◌||◌, ◌==◌, not, nat_le, if◌th
 use Rattle.tree_log.specs.declared.entry.Entry.{Entry}
 use Rattle.tree_log.specs.declared.entry.Load.{Load}
 use Rattle.tree_log.specs.declared.entry.What.{What}
-use Rattle.tree_log.specs.declared.entry.What.TheVariants.{Open, Frame, Begin, Commit}
+use Rattle.tree_log.specs.declared.entry.What.TheVariants.{Open, Frame, Begin, Commit, Post, Fire, Lapse, Closing, Gone}
+use Rattle.tree_log.specs.declared.entry.Target.{Target}
+use Rattle.tree_log.specs.declared.entry.Cause.TheVariants as causes
 use Rattle.tree_log.specs.Log.{prefix}
 use Rattle.tree_log.specs.Facts.{shows, or_else, Birth}
-use Rattle.tree_log.specs.Tree.{Tree, tree_of, after, tree_of_step, is, home_of, is_discarded}
+use Rattle.tree_log.specs.Tree.{Tree, tree_of, after, tree_of_step, is, home_of, origin_of, is_discarded, is_active}
 use Rattle.tree_log.specs.Admits.{admits, AreAdmitted}
-use Rattle.tree_log.proofs.Admitted.{both, eq_of, docs_grow, docs_at_step, born_stays, StandsFor, StandsIfAny, LoadsStand, AllStand, loads_stand}
+use Rattle.tree_log.proofs.Admitted.{both, eq_of, docs_grow, docs_at_step, born_stays, StandsFor, StandsIfAny, TaskStands, AllStand, tasks_stand}
 use Rattle.single_agent.specs.declared.request.Request.{Request}
 use Rattle.single_agent.specs.declared.request.Request.TheVariants as ask
-use Rattle.single_agent.specs.declared.act.Running.{Running}
-use Rattle.single_agent.specs.NextTask.{load_waits, load_task, task_of, first_task, next_task, task_entry}
-use Rattle.single_agent.specs.NextAct.{starts_script}
+use Rattle.single_agent.specs.NextTask.{load_waits, load_task, is_for, delivery, task_of, first_task, next_task, is_over, task_entry}
 use Rattle.single_agent.specs.Decision.{Rules, asker_of, home_if_active, asked, exchange}
 
 -- the document is there, has been active, and is homed at renderer r
@@ -80,41 +80,57 @@ load_homed : (t : Tree) (r place nav : ℕ) (load : Option Load) (what : What) �
 load_homed t r place nav None what s h = absurd cc
 load_homed t r place nav (Some load) what s h = waiting_homed t r place nav load what (load_waits t r nav load) refl s h
 
-task_of_homed : (t : Tree) (r place : ℕ) (w what : What) → LoadsStand t w → task_of t r place w ≡ Some what → IsHomedTask t r what
-task_of_homed t r place (Open nav _ _ _ _ _ _ _ _ load) what s h = load_homed t r place nav load what s h
-task_of_homed t r place (Frame nav _ _ _ _ _ load) what s h = load_homed t r place nav load what s h
-task_of_homed t r place (Begin nav load) what s h = load_homed t r place nav (Some load) what s h
-task_of_homed t r place _ what s h = absurd cc
+delivered_homed : (t : Tree) (r place to : ℕ) (quiet fits : Bool) → IsHomedTask t r (if quiet then Lapse to place causes.Inactive else if fits then Fire to place else Lapse to place causes.Origin)
+unfolding IsHomedTask
+delivered_homed t r place to true fits = tt
+delivered_homed t r place to false true = tt
+delivered_homed t r place to false false = tt
+
+message_homed : (t : Tree) (r place to : ℕ) (target : Target) (b : Bool) (what : What) → (if b then Some (delivery t place to target) else None) ≡ Some what → IsHomedTask t r what
+message_homed t r place to target false what h = absurd cc
+message_homed t r place to target true what h =
+    let same : delivery t place to target ≡ what = cc in
+    subst (IsHomedTask t r) same (delivered_homed t r place to (not (is_active t to)) (is_for target (origin_of t to)))
+
+closing_homed : (t : Tree) (r nav : ℕ) (b : Bool) (what : What) → (if b then Some (Gone nav) else None) ≡ Some what → IsHomedTask t r what
+unfolding IsHomedTask
+closing_homed t r nav false what h = absurd cc
+closing_homed t r nav true what h = let same : Gone nav ≡ what = cc in subst (IsHomedTask t r) same tt
+
+task_of_homed : (t : Tree) (over : ℕ → ℕ → Bool) (r place : ℕ) (w what : What) → TaskStands t w → task_of t over r place w ≡ Some what → IsHomedTask t r what
+task_of_homed t over r place (Open nav _ _ _ _ _ _ _ _ load) what s h = load_homed t r place nav load what s h
+task_of_homed t over r place (Frame nav _ _ _ _ _ load) what s h = load_homed t r place nav load what s h
+task_of_homed t over r place (Begin nav load) what s h = load_homed t r place nav (Some load) what s h
+task_of_homed t over r place (Post to _ _ target _) what s h = message_homed t r place to target (home_of t to == r && not (over to place)) what h
+task_of_homed t over r place (Closing nav) what s h = closing_homed t r nav (home_of t (t.nav nav).active == r && not (is_discarded t nav)) what h
+task_of_homed t over r place _ what s h = absurd cc
 
 either_is : (a b : Option What) (what : What) → or_else a b ≡ Some what → (a ≡ Some what) ⊎ (b ≡ Some what)
 either_is (Some w) b what h = inl h
 either_is None b what h = inr h
 
-first_homed : (t : Tree) (r : ℕ) (log : List Entry) (what : What) → AllStand t log → first_task t r log ≡ Some what → IsHomedTask t r what
-first_homed t r [] what s h = absurd cc
-first_homed t r (e ∷ older) what s h =
-    elim (either_is (first_task t r older) (task_of t r (length older) e.what) what h) [
-      | inl p ↦ first_homed t r older what s.1 p
-      | inr p ↦ task_of_homed t r (length older) e.what what s.0 p
+first_homed : (t : Tree) (over : ℕ → ℕ → Bool) (r : ℕ) (log : List Entry) (what : What) → AllStand t log → first_task t over r log ≡ Some what → IsHomedTask t r what
+first_homed t over r [] what s h = absurd cc
+first_homed t over r (e ∷ older) what s h =
+    elim (either_is (first_task t over r older) (task_of t over r (length older) e.what) what h) [
+      | inl p ↦ first_homed t over r older what s.1 p
+      | inr p ↦ task_of_homed t over r (length older) e.what what s.0 p
     ]
 
 committed_mine : (r : ℕ) (t : Tree) (nav doc begin : ℕ) → doc < t.docs → home_of t doc ≡ r → IsMine r (after t (task_entry r (Commit nav doc begin))) doc
 unfolding after
 committed_mine r t nav doc begin there home = record { there = there; been = rw (eq-eqb doc doc refl) refl; home = home }
 
-started_mine : (r : ℕ) (t : Tree) (what : What) (run : Running) → IsHomedTask t r what → starts_script what ≡ Some run → IsMine r (after t (task_entry r what)) run.doc
+homed_mine : (r : ℕ) (t : Tree) (nav doc begin : ℕ) → IsHomedTask t r (Commit nav doc begin) → IsMine r (after t (task_entry r (Commit nav doc begin))) doc
 unfolding IsHomedTask
-started_mine r t (Commit nav doc begin) run h is =
-    let same : record { doc = doc; made = 0 } ≡ run = cc in
-    subst (λ (q : Running). IsMine r (after t (task_entry r (Commit nav doc begin))) q.doc) same (committed_mine r t nav doc begin h.0 h.1)
-started_mine r t _ run h is = absurd cc
+homed_mine r t nav doc begin h = committed_mine r t nav doc begin h.0 h.1
 
--- the document whose script a task starts
-pub task_mine : (r : ℕ) (log : List Entry) (what : What) (run : Running) → AreAdmitted log → next_task log r ≡ Some what → starts_script what ≡ Some run → IsMine r (tree_of (task_entry r what ∷ log)) run.doc
+-- the document of a commit that is the next task
+pub commit_mine : (r : ℕ) (log : List Entry) (nav doc begin : ℕ) → AreAdmitted log → next_task log r ≡ Some (Commit nav doc begin) → IsMine r (tree_of (task_entry r (Commit nav doc begin) ∷ log)) doc
 unfolding next_task
-task_mine r log what run all next starts =
-    subst (λ (t : Tree). IsMine r t run.doc) (sym (tree_of_step (task_entry r what) log))
-    (started_mine r (tree_of log) what run (first_homed (tree_of log) r log what (loads_stand log all) next) starts)
+commit_mine r log nav doc begin all next =
+    subst (λ (t : Tree). IsMine r t doc) (sym (tree_of_step (task_entry r (Commit nav doc begin)) log))
+    (homed_mine r (tree_of log) nav doc begin (first_homed (tree_of log) (is_over log) r log (Commit nav doc begin) (tasks_stand log all) next))
 
 -- A REQUEST
 

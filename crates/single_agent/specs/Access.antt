@@ -1,32 +1,16 @@
 -- What an access to an object answers, own and foreign (HTML Standard, 7.2.3, the WindowProxy exotic object, and 7.2.4.3,
 -- the Location exotic object; ECMA-262, 10.1). It is said once, for a Window and a Location alike.
-use Rattle.std.specs.Prelude.{ℕ, List, ◌++◌, ◌&&◌, map, Bool, true, false, Option, Some, None, Result, Ok, Err, if◌then◌else◌, is_some, is_none, option_map}
+use Rattle.std.specs.Prelude.{ℕ, List, ◌++◌, ◌&&◌, map, Bool, true, false, Option, Some, None, Result, Ok, Err, if◌then◌else◌, is_some, is_none, option_map, decimal}
 use Rattle.std.specs.List.{range_with_len}
 use Rattle.std.specs.Option.{option_or}
-use Rattle.std.specs.Fmt.{decimal}
-use Rattle.window_props.specs.declared.key.Key.{Key}
-use Rattle.window_props.specs.declared.key.Key.TheVariants as key
-use Rattle.window_props.specs.declared.value.Value.{Value}
-use Rattle.window_props.specs.declared.value.Value.TheVariants as value
-use Rattle.window_props.specs.declared.value.Kind.{Kind}
-use Rattle.window_props.specs.declared.descriptor.Body.TheVariants as body
-use Rattle.window_props.specs.declared.descriptor.Change.{Change}
+use Rattle.single_agent.specs.Names.{Key, Value, Kind, Change, Object, Outcome, Rule, S1, S2, S3, S4, S5, S6}
+use Rattle.window_props.specs.declared.descriptor.Body.{Body}
 use Rattle.window_props.specs.declared.descriptor.Descriptor.{Descriptor}
-use Rattle.window_props.specs.declared.platform.Object.{Object}
 use Rattle.window_props.specs.declared.props.SetAnswer.{SetAnswer}
-use Rattle.window_props.specs.declared.props.SetAnswer.TheVariants as settled
 use Rattle.window_props.specs.Ordinary.{Act, Define, Set, Delete}
 use Rattle.window_props.specs.History.{Store, Call, after, answer_in}
 use Rattle.window_props.specs.Cross.{listed, list_keys, is_fallback, fallback_keys}
 use Rattle.single_agent.specs.Values.{undefined, null, window_or}
-use Rattle.single_agent.specs.declared.outcome.Outcome.{Outcome}
-use Rattle.single_agent.specs.declared.outcome.Outcome.TheVariants as outcome
-use Rattle.single_agent.specs.declared.outcome.Rule.{Rule}
-use Rattle.single_agent.specs.declared.outcome.Rule.TheVariants.{S1, S2, S3, S4, S5, S6}
-use Rattle.single_agent.specs.declared.outcome.Ruling.{Ruling}
-use Rattle.single_agent.specs.declared.outcome.Ruling.TheVariants.{Allowed, Refused}
-use Rattle.single_agent.specs.declared.outcome.Op.{Op}
-use Rattle.single_agent.specs.declared.outcome.Op.TheVariants as op
 
 -- an object as the asker meets it
 pub record Seen : Type 0 where
@@ -41,13 +25,12 @@ pub record Seen : Type 0 where
   pub setter : Key → Value → Outcome  -- what the setter of the platform's accessor comes to
 
 abbrev pub constant : Value → Bool → Descriptor
-constant v enumerable = record { body = body.Value v false; enumerable = enumerable; configurable = true }
+constant v enumerable = record { body = Body.Value v false; enumerable = enumerable; configurable = true }
 
 abbrev pub child_property : Bool → ℕ → Descriptor
-child_property enumerable n = constant (value.Window n) enumerable
+child_property enumerable n = constant (Value.Window n) enumerable
 
--- THE PROPERTY
-
+-- The property: at an array index the child there
 abbrev pub at_index : Option ℕ → Option Descriptor
 at_index = option_map (child_property true)
 
@@ -69,53 +52,50 @@ unfoldable pub foreign_property : Seen → Key → Result Descriptor Rule
 foreign_property s key = elim (s.index key) [ Some i ↦ or_refused S2 (at_index (s.child i)) | None ↦ foreign_named s key ]
 
 abbrev pub described_foreign : Result Descriptor Rule → Outcome
-described_foreign (Err rule) = outcome.Security rule
-described_foreign (Ok d) = outcome.Own (Some d)
+described_foreign (Err rule) = Outcome.Security rule
+described_foreign (Ok d) = Outcome.Own (Some d)
 
 unfoldable pub described : Seen → Store → Key → Outcome
-described s props key = if s.own then outcome.Own (own_property s props key) else described_foreign (foreign_property s key)
+described s props key = if s.own then Outcome.Own (own_property s props key) else described_foreign (foreign_property s key)
 
--- GET
-
+-- Get: a child that the key names comes after the own properties
 abbrev pub got_own : Seen → Key → Option Descriptor → Value
 got_own s key None = window_or undefined (s.child_named key)
-got_own s key (Some d) = elim d.body [ body.Value v _ ↦ v | body.Accessor _ _ ↦ s.getter key ]
+got_own s key (Some d) = elim d.body [ Body.Value v _ ↦ v | Body.Accessor _ _ ↦ s.getter key ]
 
 abbrev pub got_foreign : Seen → Key → Result Descriptor Rule → Outcome
-got_foreign s key (Err rule) = outcome.Security rule
+got_foreign s key (Err rule) = Outcome.Security rule
 got_foreign s key (Ok d) = elim d.body [
-  | body.Value v _ ↦ outcome.Value v
-  | body.Accessor get _ ↦ if get then outcome.Value (s.getter key) else outcome.Security S3
+  | Body.Value v _ ↦ Outcome.Value v
+  | Body.Accessor get _ ↦ if get then Outcome.Value (s.getter key) else Outcome.Security S3
 ]
 
 unfoldable pub got : Seen → Store → Key → Outcome
-got s props key = if s.own then outcome.Value (got_own s key (own_property s props key)) else got_foreign s key (foreign_property s key)
+got s props key = if s.own then Outcome.Value (got_own s key (own_property s props key)) else got_foreign s key (foreign_property s key)
 
--- HAS
-
+-- Has: for others a property is there, or the access is refused
 abbrev pub has_foreign : Result Descriptor Rule → Outcome
-has_foreign (Err rule) = outcome.Security rule
-has_foreign (Ok d) = outcome.Truth true
+has_foreign (Err rule) = Outcome.Security rule
+has_foreign (Ok d) = Outcome.Truth true
 
 abbrev pub has_own : Seen → Key → Option Descriptor → Bool
 has_own s key None = is_some (s.child_named key)
 has_own s key (Some d) = true
 
 unfoldable pub has : Seen → Store → Key → Outcome
-has s props key = if s.own then outcome.Truth (has_own s key (own_property s props key)) else has_foreign (foreign_property s key)
+has s props key = if s.own then Outcome.Truth (has_own s key (own_property s props key)) else has_foreign (foreign_property s key)
 
--- SET
-
+-- Set: what the ordinary set comes to, by the platform's setter where there is one
 abbrev pub settled_own : Seen → Key → Value → SetAnswer → Outcome
-settled_own s key v (settled.Truth b) = outcome.Truth b
-settled_own s key v settled.Setter = s.setter key v
-settled_own s key v settled.TypeFault = outcome.TypeFault
+settled_own s key v (SetAnswer.Truth b) = Outcome.Truth b
+settled_own s key v SetAnswer.Setter = s.setter key v
+settled_own s key v SetAnswer.TypeFault = Outcome.TypeFault
 
 abbrev pub set_foreign : Seen → Key → Value → Result Descriptor Rule → Outcome
-set_foreign s key v (Err rule) = outcome.Security rule
+set_foreign s key v (Err rule) = Outcome.Security rule
 set_foreign s key v (Ok d) = elim d.body [
-  | body.Value _ _ ↦ outcome.Security S4
-  | body.Accessor _ set ↦ if set then s.setter key v else outcome.Security S4
+  | Body.Value _ _ ↦ Outcome.Security S4
+  | Body.Accessor _ set ↦ if set then s.setter key v else Outcome.Security S4
 ]
 
 abbrev pub called : Key → Act → Call
@@ -123,65 +103,38 @@ called key act = record { key = key; act = act }
 
 unfoldable pub set : Seen → Store → Key → Value → Outcome
 set s props key v =
-    if s.own then elim (s.index key) [ Some i ↦ outcome.Truth false | None ↦ settled_own s key v (answer_in props (called key (Set v))) ]
+    if s.own then elim (s.index key) [ Some i ↦ Outcome.Truth false | None ↦ settled_own s key v (answer_in props (called key (Set v))) ]
     else set_foreign s key v (foreign_property s key)
 
--- DEFINE, DELETE
-
+-- Define and delete: neither comes to a setter
 abbrev pub truth_of : SetAnswer → Outcome
-truth_of (settled.Truth b) = outcome.Truth b
-truth_of settled.Setter = outcome.TypeFault
-truth_of settled.TypeFault = outcome.TypeFault
+truth_of (SetAnswer.Truth b) = Outcome.Truth b
+truth_of SetAnswer.Setter = Outcome.TypeFault
+truth_of SetAnswer.TypeFault = Outcome.TypeFault
 
 unfoldable pub defined : Seen → Store → Key → Change → Outcome
 defined s props key change =
-    if s.own then elim (s.index key) [ Some i ↦ outcome.Truth false | None ↦ truth_of (answer_in props (called key (Define change))) ]
-    else outcome.Security S5
+    if s.own then elim (s.index key) [ Some i ↦ Outcome.Truth false | None ↦ truth_of (answer_in props (called key (Define change))) ]
+    else Outcome.Security S5
 
 unfoldable pub deleted : Seen → Store → Key → Outcome
 deleted s props key =
-    if s.own then elim (s.index key) [ Some i ↦ outcome.Truth (is_none (s.child i)) | None ↦ truth_of (answer_in props (called key Delete)) ]
-    else outcome.Security S6
+    if s.own then elim (s.index key) [ Some i ↦ Outcome.Truth (is_none (s.child i)) | None ↦ truth_of (answer_in props (called key Delete)) ]
+    else Outcome.Security S6
 
 -- the properties afterwards: an act at an index, or by others, changes nothing
 unfoldable pub left : Seen → Store → Key → Act → Store
 left s props key act = if s.own && is_none (s.index key) then after props (called key act) else props
 
--- KEYS, PROTOTYPE
-
+-- Keys and prototype: the key of an array index
 abbrev pub index_key : ℕ → Key
-index_key i = key.Text (decimal i)
+index_key i = Key.Text (decimal i)
 
 unfoldable pub index_keys : ℕ → List Key
 index_keys count = map index_key (range_with_len 0 count)
 
 unfoldable pub keys : Seen → Store → Outcome
-keys s props = outcome.Keys (index_keys s.count ++ (if s.own then props.keys else list_keys s.object ++ fallback_keys))
+keys s props = Outcome.Keys (index_keys s.count ++ (if s.own then props.keys else list_keys s.object ++ fallback_keys))
 
 unfoldable pub prototype : Seen → Outcome
-prototype s = outcome.Value (if s.own then value.Prototype s.kind else null)
-
--- VERDICT
-
-abbrev pub ruled : Result Descriptor Rule → (Descriptor → Ruling) → Ruling
-ruled (Err rule) f = Refused rule
-ruled (Ok d) f = f d
-
-abbrev pub ruled_get : Descriptor → Ruling
-ruled_get d = elim d.body [ body.Value _ _ ↦ Allowed | body.Accessor get _ ↦ if get then Allowed else Refused S3 ]
-
-abbrev pub ruled_set : Descriptor → Ruling
-ruled_set d = elim d.body [ body.Value _ _ ↦ Refused S4 | body.Accessor _ set ↦ if set then Allowed else Refused S4 ]
-
-abbrev pub ruled_foreign : Op → Result Descriptor Rule → Ruling
-ruled_foreign op.Get found = ruled found ruled_get
-ruled_foreign op.Set found = ruled found ruled_set
-ruled_foreign op.Has found = ruled found (λ d. Allowed)
-ruled_foreign op.Describe found = ruled found (λ d. Allowed)
-ruled_foreign op.Define found = Refused S5
-ruled_foreign op.Delete found = Refused S6
-ruled_foreign op.Keys found = Allowed
-ruled_foreign op.Prototype found = Allowed
-
-unfoldable pub verdict : Seen → Op → Key → Ruling
-verdict s o key = if s.own then Allowed else ruled_foreign o (foreign_property s key)
+prototype s = Outcome.Value (if s.own then Value.Prototype s.kind else null)

@@ -2,23 +2,14 @@
 -- project's own; what each does is that of the HTML Standard: 4.8.5, a frame; 7.2.2.1, open and close; 4.6.4, a link;
 -- 7.4.2, navigation; 7.2.2.4, name and opener; 9.3.3, postMessage.
 use Rattle.std.specs.Prelude.{ℕ, ◌+◌, List, [], ◌∷◌, ◌++◌, length, Option, Some, None, Bool, false, not, ◌==◌, ◌&&◌, ◌||◌, nat_lt, is_none, is_some, unwrap_or, codes, if◌then◌else◌}
-use Rattle.origin_core.specs.declared.origin.Origin.{Origin}
+use Rattle.single_agent.specs.Names.{Origin, Request, ReplyOutcome, Session, Entry, Load, What}
 use Rattle.origin_core.specs.Flags.{has_navigation, has_origin, has_propagates, union}
 use Rattle.origin_core.specs.Origin.{is_same_origin_domain, page_origin, loaded_origin, frame_origin, window_origin}
 use Rattle.origin_core.specs.Page.{fragment_of, is_same_but_fragment}
 use Rattle.origin_core.specs.Site.{site_of}
-use Rattle.tree_log.specs.declared.entry.Entry.{Entry}
-use Rattle.tree_log.specs.declared.entry.Load.{Load}
-use Rattle.tree_log.specs.declared.entry.What.{What}
-use Rattle.tree_log.specs.declared.entry.What.TheVariants as what
 use Rattle.tree_log.specs.Tree.{Tree, tree_of, is, home_of, origin_of, nav_of, is_active, group_of, children_of, same_group}
 use Rattle.tree_log.specs.Urls.{url_of}
 use Rattle.tree_log.specs.Homes.{home_for}
-use Rattle.single_agent.specs.declared.request.Request.{Request}
-use Rattle.single_agent.specs.declared.request.Request.TheVariants as ask
-use Rattle.single_agent.specs.declared.request.ReplyOutcome.{ReplyOutcome}
-use Rattle.single_agent.specs.declared.request.ReplyOutcome.TheVariants as reply
-use Rattle.single_agent.specs.declared.session.Session.{Session}
 use Rattle.single_agent.specs.NextTask.{next_task, task_entry}
 use Rattle.single_agent.specs.Navigation.{flags_in, is_in, is_word, may_navigate, may_close, Choice, Existing, New, Nothing, choice}
 
@@ -40,9 +31,7 @@ by r asker w = record { by = Some r; actor = Some asker; what = w }
 abbrev pub one : ℕ → ℕ → What → ReplyOutcome → Decision
 one r asker w outcome = record { entries = by r asker w ∷ []; outcome = outcome }
 
--- LOADS
-
--- the group of a navigable that is there
+-- Loads: the group of a navigable that is there
 abbrev pub group_in : Tree → ℕ → ℕ
 group_in t n = unwrap_or (group_of t n) 0
 
@@ -54,9 +43,7 @@ load_of rules t group doc origin url =
 abbrev pub load_for : Rules → Tree → ℕ → ℕ → ℕ → ℕ → List ℕ → Load
 load_for rules t group flags doc asker url = load_of rules t group doc (loaded_origin (has_origin flags) doc (origin_of t asker) url) url
 
--- FRAMES
-
--- a frame at `about:blank` begins no load
+-- Frames: one at `about:blank` begins no load
 abbrev pub frame_load : Rules → Tree → ℕ → ℕ → Option (List ℕ) → Option Load
 frame_load rules t asker flags None = None
 frame_load rules t asker flags (Some url) =
@@ -64,18 +51,15 @@ frame_load rules t asker flags (Some url) =
 
 abbrev pub framed : Rules → Tree → ℕ → List ℕ → ℕ → Option (List ℕ) → What
 framed rules t asker name flags url =
-    what.Frame t.navs t.docs (home_of t asker) (frame_origin (has_origin flags) t.docs (origin_of t asker)) name flags (frame_load rules t asker flags url)
-
--- NAVIGATION
+    What.Frame t.navs t.docs (home_of t asker) (frame_origin (has_origin flags) t.docs (origin_of t asker)) name flags (frame_load rules t asker flags url)
 
 -- the navigation of n to a URL: a fragment navigation, or a load
 abbrev pub navigation : Rules → Tree → Bool → ℕ → ℕ → List ℕ → What
 navigation rules t fragment asker n url =
-    if fragment then what.Fragment n (t.nav n).active url
-    else what.Begin n (load_for rules t (group_in t n) (flags_in t n) t.docs asker url)
+    if fragment then What.Fragment n (t.nav n).active url
+    else What.Begin n (load_for rules t (group_in t n) (flags_in t n) t.docs asker url)
 
--- WINDOWS
-
+-- Windows: what a new one loads
 abbrev pub window_load : Rules → Tree → ℕ → ℕ → ℕ → Option (List ℕ) → Option Load
 window_load rules t asker group flags None = None
 window_load rules t asker group flags (Some url) = Some (load_for rules t group flags (t.docs + 1) asker url)
@@ -93,7 +77,7 @@ unless noopener n = if noopener then None else Some n
 -- a new window of group g, made from navigable n
 abbrev pub opened : Rules → Tree → ℕ → ℕ → ℕ → List ℕ → Bool → Option (List ℕ) → What
 opened rules t asker n g name noopener url =
-    what.Open t.navs t.docs g (home_of t asker) (window_origin noopener t.docs (origin_of t asker)) (window_name name)
+    What.Open t.navs t.docs g (home_of t asker) (window_origin noopener t.docs (origin_of t asker)) (window_name name)
     (unless noopener n) (window_flags t n) (unless (noopener || not (has_navigation (flags_in t n))) n)
     (window_load rules t asker g (window_flags t n) url)
 
@@ -103,14 +87,14 @@ new_window rules t asker name noopener url =
 
 -- the opener of an existing navigable is set, unless it is the one that asks
 abbrev pub opener_entry : Tree → ℕ → ℕ → Bool → ℕ → List Entry
-opener_entry t r asker noopener n = if noopener || n == nav_of t asker then [] else by r asker (what.Opener n (Some (nav_of t asker))) ∷ []
+opener_entry t r asker noopener n = if noopener || n == nav_of t asker then [] else by r asker (What.Opener n (Some (nav_of t asker))) ∷ []
 
 abbrev pub or_sync : ℕ → ℕ → List Entry → List Entry
-or_sync r asker [] = by r asker what.Sync ∷ []
+or_sync r asker [] = by r asker What.Sync ∷ []
 or_sync r asker (e ∷ es) = e ∷ es
 
 abbrev pub made_or_null : Bool → ℕ → ReplyOutcome
-made_or_null noopener n = if noopener then reply.Null else reply.Made n
+made_or_null noopener n = if noopener then ReplyOutcome.Null else ReplyOutcome.Made n
 
 abbrev pub open_existing : Rules → Tree → Bool → ℕ → ℕ → Bool → Bool → ℕ → Option (List ℕ) → Decision
 open_existing rules t fragment r asker noopener user n None =
@@ -118,22 +102,20 @@ open_existing rules t fragment r asker noopener user n None =
 open_existing rules t fragment r asker noopener user n (Some url) =
     if may_navigate t (nav_of t asker) n user then
     record { entries = opener_entry t r asker noopener n ++ by r asker (navigation rules t fragment asker n url) ∷ []; outcome = made_or_null noopener n }
-    else one r asker what.Sync (reply.Security 7)
+    else one r asker What.Sync (ReplyOutcome.Security 7)
 
 abbrev pub open_chosen : Rules → Tree → Bool → ℕ → ℕ → Option (List ℕ) → List ℕ → Bool → Bool → Choice → Decision
-open_chosen rules t fragment r asker url name noopener user Nothing = one r asker what.Sync reply.Null
+open_chosen rules t fragment r asker url name noopener user Nothing = one r asker What.Sync ReplyOutcome.Null
 open_chosen rules t fragment r asker url name noopener user New = one r asker (new_window rules t asker name noopener url) (made_or_null noopener t.navs)
 open_chosen rules t fragment r asker url name noopener user (Existing n) = open_existing rules t fragment r asker noopener user n url
 
 abbrev pub link_chosen : Rules → Tree → Bool → ℕ → List ℕ → List ℕ → Bool → Bool → Choice → What
-link_chosen rules t fragment asker url name noopener user Nothing = what.Sync
+link_chosen rules t fragment asker url name noopener user Nothing = What.Sync
 link_chosen rules t fragment asker url name noopener user New = new_window rules t asker name noopener (Some url)
 link_chosen rules t fragment asker url name noopener user (Existing n) =
-    if may_navigate t (nav_of t asker) n user then navigation rules t fragment asker n url else what.Sync
+    if may_navigate t (nav_of t asker) n user then navigation rules t fragment asker n url else What.Sync
 
--- OTHER DOCUMENTS
-
--- whether the document is there, in the asker's group
+-- Other documents: whether one is there, in the asker's group
 abbrev pub is_near : Tree → ℕ → ℕ → Bool
 is_near t asker doc = nat_lt doc t.docs && same_group t (nav_of t asker) (nav_of t doc)
 
@@ -144,52 +126,49 @@ is_live t asker doc = is_near t asker doc && is_active t doc
 abbrev pub if_open : Tree → ℕ → ℕ → ℕ → What → Decision
 if_open t r asker doc w =
     if is_live t asker doc then
-    if is_same_origin_domain (origin_of t asker) (origin_of t doc) then one r asker w reply.Done
-    else one r asker what.Sync (reply.Security 8)
-    else one r asker what.Sync reply.Done
+    if is_same_origin_domain (origin_of t asker) (origin_of t doc) then one r asker w ReplyOutcome.Done
+    else one r asker What.Sync (ReplyOutcome.Security 8)
+    else one r asker What.Sync ReplyOutcome.Done
 
--- THE DECISION
-
--- on a request of a document that is active; whether it is a fragment navigation depends on URLs
+-- The decision, on a request of a document that is active; whether it is a fragment navigation depends on URLs
 unfoldable pub decide : Rules → Tree → Bool → ℕ → Request → Decision
-decide rules t fragment r ask.Next = record { entries = []; outcome = reply.Nothing }
-decide rules t fragment r (ask.Sync asker) = one r asker what.Sync reply.Done
-decide rules t fragment r (ask.Frame asker name flags url) =
-    one r asker (framed rules t asker name (union flags (flags_in t (nav_of t asker))) url) (reply.Made t.navs)
-decide rules t fragment r (ask.Drop asker nav) = one r asker (if is_in nav (children_of t asker) then what.Drop nav else what.Sync) reply.Done
-decide rules t fragment r (ask.Open asker url name noopener user) =
+decide rules t fragment r Request.Next = record { entries = []; outcome = ReplyOutcome.Nothing }
+decide rules t fragment r (Request.Sync asker) = one r asker What.Sync ReplyOutcome.Done
+decide rules t fragment r (Request.Frame asker name flags url) =
+    one r asker (framed rules t asker name (union flags (flags_in t (nav_of t asker))) url) (ReplyOutcome.Made t.navs)
+decide rules t fragment r (Request.Drop asker nav) = one r asker (if is_in nav (children_of t asker) then What.Drop nav else What.Sync) ReplyOutcome.Done
+decide rules t fragment r (Request.Open asker url name noopener user) =
     open_chosen rules t fragment r asker url name noopener user (choice t (nav_of t asker) name noopener user)
-decide rules t fragment r (ask.Link asker url name noopener user) =
-    one r asker (link_chosen rules t fragment asker url name noopener user (choice t (nav_of t asker) name noopener user)) reply.Done
-decide rules t fragment r (ask.Go asker doc url user) =
+decide rules t fragment r (Request.Link asker url name noopener user) =
+    one r asker (link_chosen rules t fragment asker url name noopener user (choice t (nav_of t asker) name noopener user)) ReplyOutcome.Done
+decide rules t fragment r (Request.Go asker doc url user) =
     if is_live t asker doc then
-    if may_navigate t (nav_of t asker) (nav_of t doc) user then one r asker (navigation rules t fragment asker (nav_of t doc) url) reply.Done
-    else one r asker what.Sync (reply.Security 7)
-    else one r asker what.Sync reply.Done
-decide rules t fragment r (ask.Name asker doc name) = if_open t r asker doc (what.Name (nav_of t doc) name)
-decide rules t fragment r (ask.Disown asker doc) = if_open t r asker doc (what.Opener (nav_of t doc) None)
-decide rules t fragment r (ask.Close asker doc user) =
-    one r asker (if is_live t asker doc && may_close t (nav_of t asker) (nav_of t doc) user then what.Closing (nav_of t doc) else what.Sync) reply.Done
-decide rules t fragment r (ask.Post asker doc target body) =
-    one r asker (if is_near t asker doc then what.Post doc (nav_of t asker) (origin_of t asker) target body else what.Sync) reply.Done
+    if may_navigate t (nav_of t asker) (nav_of t doc) user then one r asker (navigation rules t fragment asker (nav_of t doc) url) ReplyOutcome.Done
+    else one r asker What.Sync (ReplyOutcome.Security 7)
+    else one r asker What.Sync ReplyOutcome.Done
+decide rules t fragment r (Request.Name asker doc name) = if_open t r asker doc (What.Name (nav_of t doc) name)
+decide rules t fragment r (Request.Disown asker doc) = if_open t r asker doc (What.Opener (nav_of t doc) None)
+decide rules t fragment r (Request.Close asker doc user) =
+    one r asker (if is_live t asker doc && may_close t (nav_of t asker) (nav_of t doc) user then What.Closing (nav_of t doc) else What.Sync) ReplyOutcome.Done
+decide rules t fragment r (Request.Post asker doc target body) =
+    one r asker (if is_near t asker doc then What.Post doc (nav_of t asker) (origin_of t asker) target body else What.Sync) ReplyOutcome.Done
 
--- FRAGMENTS (HTML Standard, 7.4.2.2: the URL equals the document's but for fragments, and its own isn't null)
-
+-- Fragments (HTML Standard, 7.4.2.2: the URL equals the document's but for fragments, and its own isn't null)
 abbrev pub goes_to : Tree → ℕ → Bool → Choice → Option ℕ
 goes_to t current user (Existing n) = if may_navigate t current n user then Some n else None
 goes_to t current user _ = None
 
 -- the navigable that the request navigates to a URL
 abbrev pub destination : Tree → Request → Option ℕ
-destination t (ask.Open asker (Some url) name noopener user) = goes_to t (nav_of t asker) user (choice t (nav_of t asker) name noopener user)
-destination t (ask.Link asker url name noopener user) = goes_to t (nav_of t asker) user (choice t (nav_of t asker) name noopener user)
-destination t (ask.Go asker doc url user) = if is_live t asker doc && may_navigate t (nav_of t asker) (nav_of t doc) user then Some (nav_of t doc) else None
+destination t (Request.Open asker (Some url) name noopener user) = goes_to t (nav_of t asker) user (choice t (nav_of t asker) name noopener user)
+destination t (Request.Link asker url name noopener user) = goes_to t (nav_of t asker) user (choice t (nav_of t asker) name noopener user)
+destination t (Request.Go asker doc url user) = if is_live t asker doc && may_navigate t (nav_of t asker) (nav_of t doc) user then Some (nav_of t doc) else None
 destination t _ = None
 
 abbrev pub url_in : Request → List ℕ
-url_in (ask.Open asker (Some url) _ _ _) = url
-url_in (ask.Link _ url _ _ _) = url
-url_in (ask.Go _ _ url _) = url
+url_in (Request.Open asker (Some url) _ _ _) = url
+url_in (Request.Link _ url _ _ _) = url
+url_in (Request.Go _ _ url _) = url
 url_in _ = []
 
 abbrev pub differs_in_fragment : List ℕ → List ℕ → Bool
@@ -199,20 +178,19 @@ differs_in_fragment url now = is_some (fragment_of url) && is_same_but_fragment 
 unfoldable pub is_fragment : Tree → (ℕ → List ℕ) → Request → Bool
 is_fragment t urls request = elim (destination t request) [ None ↦ false | Some n ↦ differs_in_fragment (url_in request) (urls (t.nav n).active) ]
 
--- EXCHANGES
-
+-- Exchanges: the document that asks
 abbrev pub asker_of : Request → ℕ
-asker_of ask.Next = 0
-asker_of (ask.Sync asker) = asker
-asker_of (ask.Frame asker _ _ _) = asker
-asker_of (ask.Drop asker _) = asker
-asker_of (ask.Open asker _ _ _ _) = asker
-asker_of (ask.Link asker _ _ _ _) = asker
-asker_of (ask.Go asker _ _ _) = asker
-asker_of (ask.Name asker _ _) = asker
-asker_of (ask.Disown asker _) = asker
-asker_of (ask.Close asker _ _) = asker
-asker_of (ask.Post asker _ _ _) = asker
+asker_of Request.Next = 0
+asker_of (Request.Sync asker) = asker
+asker_of (Request.Frame asker _ _ _) = asker
+asker_of (Request.Drop asker _) = asker
+asker_of (Request.Open asker _ _ _ _) = asker
+asker_of (Request.Link asker _ _ _ _) = asker
+asker_of (Request.Go asker _ _ _) = asker
+asker_of (Request.Name asker _ _) = asker
+asker_of (Request.Disown asker _) = asker
+asker_of (Request.Close asker _ _) = asker
+asker_of (Request.Post asker _ _ _) = asker
 
 -- the place of the entry that ended a document
 unfoldable pub end_of : List Entry → ℕ → ℕ
@@ -226,16 +204,16 @@ home_if_active t d = if (t.doc d).been_active then Some (home_of t d) else None
 unfoldable pub asked : Rules → List Entry → ℕ → Request → Decision
 asked rules log r request =
     if is_active (tree_of log) (asker_of request) then decide rules (tree_of log) (is_fragment (tree_of log) (url_of log) request) r request
-    else record { entries = []; outcome = reply.Unloaded (end_of log (asker_of request)) }
+    else record { entries = []; outcome = ReplyOutcome.Unloaded (end_of log (asker_of request)) }
 
 abbrev pub task_decision : ℕ → ℕ → Option What → Decision
-task_decision r place None = record { entries = []; outcome = reply.Nothing }
-task_decision r place (Some w) = record { entries = task_entry r w ∷ []; outcome = reply.Task place }
+task_decision r place None = record { entries = []; outcome = ReplyOutcome.Nothing }
+task_decision r place (Some w) = record { entries = task_entry r w ∷ []; outcome = ReplyOutcome.Task place }
 
 -- what one exchange of a renderer gives: its next task; or else, where the asker is a document of that renderer, what is
 -- decided on the request
 unfoldable pub exchange : Rules → List Entry → ℕ → Request → Decision
-exchange rules log r ask.Next = task_decision r (length log) (next_task log r)
+exchange rules log r Request.Next = task_decision r (length log) (next_task log r)
 exchange rules log r request =
     if is (home_if_active (tree_of log) (asker_of request)) r then asked rules log r request
-    else record { entries = []; outcome = reply.NotYours (asker_of request) (home_if_active (tree_of log) (asker_of request)) }
+    else record { entries = []; outcome = ReplyOutcome.NotYours (asker_of request) (home_if_active (tree_of log) (asker_of request)) }

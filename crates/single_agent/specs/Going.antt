@@ -1,20 +1,14 @@
--- Where a Location's setter and methods, and a Window's setter of `location`, go to (HTML Standard, 7.2.4, the Location
--- interface: Location-object navigate).
+-- Where a Location's setter and methods, and a Window's setter of `location`, go to (HTML Standard, 7.2.4, Location-object navigate).
 use Rattle.std.specs.Prelude.{ℕ, List, true, Option, Some, None, Result, Ok, Err, if◌then◌else◌}
 use Rattle.origin_core.specs.Page.{read_page}
-use Rattle.origin_core.specs.declared.page.UrlError.{UrlError}
-use Rattle.origin_core.specs.declared.page.UrlError.TheVariants as url
-use Rattle.window_props.specs.declared.value.Value.{Value}
+use Rattle.single_agent.specs.Names.{UrlError, Value, Outcome, Ask}
 use Rattle.tree_log.specs.Tree.{Tree, is_active}
-use Rattle.single_agent.specs.declared.outcome.Outcome.{Outcome}
-use Rattle.single_agent.specs.declared.outcome.Outcome.TheVariants as outcome
-use Rattle.single_agent.specs.declared.outcome.Ask.TheVariants as ask
 use Rattle.single_agent.specs.Values.{text_of}
 
 abbrev pub gone_to : ℕ → Result (List ℕ) UrlError → Outcome
-gone_to doc (Ok page) = outcome.Ask (ask.Go doc page)
-gone_to doc (Err url.SchemeOut) = outcome.SchemeOut
-gone_to doc (Err _) = outcome.Syntax
+gone_to doc (Ok page) = Outcome.Ask (Ask.Go doc page)
+gone_to doc (Err UrlError.SchemeOut) = Outcome.SchemeOut
+gone_to doc (Err _) = Outcome.Syntax
 
 -- the text is read against the URL of the document that asks; nothing is done where the Location's isn't active
 unfoldable pub go : Tree → (ℕ → List ℕ) → ℕ → ℕ → List ℕ → Option Outcome
@@ -26,8 +20,8 @@ or_else_outcome other (Some o) = o
 
 -- what is done with a value's text; a value that has none gives a TypeError
 abbrev pub with_text : Value → (List ℕ → Outcome) → Outcome
-with_text v f = elim (text_of v) [ None ↦ outcome.TypeFault | Some t ↦ f t ]
+with_text v f = elim (text_of v) [ None ↦ Outcome.TypeFault | Some t ↦ f t ]
 
 -- what a set of `href` comes to
 abbrev pub set_href : Tree → (ℕ → List ℕ) → ℕ → ℕ → Value → Outcome
-set_href t urls asker doc v = with_text v (λ text. or_else_outcome (outcome.Truth true) (go t urls asker doc text))
+set_href t urls asker doc v = with_text v (λ text. or_else_outcome (Outcome.Truth true) (go t urls asker doc text))

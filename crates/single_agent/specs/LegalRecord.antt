@@ -1,18 +1,17 @@
 -- Legal records of a renderer against a log. The acts stand newest first. Records are this project's own: they say what
 -- scripts observed.
-use Rattle.std.specs.Prelude.{◌≡◌, ℕ, ◌+◌, ◌≤◌, List, [], ◌∷◌, ◌++◌, length}
-use Rattle.tree_log.specs.declared.entry.Entry.{Entry}
-use Rattle.tree_log.specs.Log.{prefix, made_by}
-use Rattle.single_agent.specs.declared.session.Session.{Session}
-use Rattle.single_agent.specs.declared.act.Act.{Act}
-use Rattle.single_agent.specs.NextAct.{length_of, newest_length, IsActOn}
+use Rattle.std.specs.Prelude.{◌≡◌, ◌⊎◌, ℕ, ◌+◌, ◌≤◌, List, [], ◌∷◌, ◌++◌, length, filter, Bool, false, ◌==◌, ◌&&◌, ◌||◌, is_none, if◌then◌else◌}
+use Rattle.single_agent.specs.Names.{Session, Act, Entry, What, Lost}
+use Rattle.tree_log.specs.Log.{prefix, is_by}
+use Rattle.single_agent.specs.LegalLog.{lost_entry}
+use Rattle.single_agent.specs.NextAct.{length_of, newest_length, has_stopped, IsActOn, IsLostOn}
 
--- the act is the next one on some prefix of the log that holds all that the older acts had heard, and its entries follow
--- that prefix
+-- the act is the next one on some prefix of the log that holds all that the older acts had heard, or is lost there; its
+-- entries follow that prefix
 pub record StandsIn (s : Session) (r : ℕ) (log : List Entry) (older : List Act) (act : Act) (own : List Entry) : Type 0 where
   pub before : ℕ
   pub later : newest_length older ≤ before
-  pub made : IsActOn s r (prefix before log) older act own
+  pub made : IsActOn s r (prefix before log) older act own ⊎ IsLostOn s r (prefix before log) older act own
   pub within : before + length own ≤ length log
   pub follow : prefix (before + length own) log ≡ own ++ prefix before log
   pub never_falls : newest_length older ≤ length_of act
@@ -24,7 +23,23 @@ LegalActs s r log [] mine = mine ≡ []
 LegalActs s r log (act ∷ older) mine =
     (own : List Entry) × (rest : List Entry) × StandsIn s r log older act own × LegalActs s r log older rest × (mine ≡ own ++ rest)
 
--- a legal record: each act is what the acts before it and the log allow, and the log's entries of the renderer are those
--- of its acts, in order
+abbrev pub loses : ℕ → What → Bool
+loses r (Lost x) = x == r
+loses r _ = false
+
+-- whether an entry is the loss of renderer r
+abbrev pub is_loss : ℕ → Entry → Bool
+is_loss r e = is_none e.by && loses r e.what
+
+-- the entries that renderer r made, and those of its loss
+unfoldable pub about : ℕ → List Entry → List Entry
+about r log = filter (λ (e : Entry). is_by r e || is_loss r e) log
+
+-- once the newest act is lost, so is the renderer
+abbrev pub and_lost : ℕ → List Act → List Entry → List Entry
+and_lost r acts mine = if has_stopped acts then lost_entry r ∷ mine else mine
+
+-- a legal record: each act is what the acts before it and the log allow; the log's entries of the renderer are those of its
+-- acts, in order; and the log has one loss of the renderer after them where the newest act is lost, or else none
 abbrev pub IsLegalRecord : Session → ℕ → List Entry → List Act → Type 0
-IsLegalRecord s r log acts = LegalActs s r log acts (made_by r log)
+IsLegalRecord s r log acts = (mine : List Entry) × LegalActs s r log acts mine × (about r log ≡ and_lost r acts mine)

@@ -1,3 +1,4 @@
+pub mod Names
 pub mod Values
 pub mod Access
 pub mod Going
@@ -14,4 +15,3 @@ pub mod NextAct
 pub mod LegalLog
 pub mod LegalRecord
 pub mod Turns
-pub mod RecordText

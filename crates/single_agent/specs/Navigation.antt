@@ -13,9 +13,7 @@ flags_in t n = (t.nav n).made.flags
 abbrev pub is_in : ℕ → List ℕ → Bool
 is_in n ns = list_any (λ m. m == n) ns
 
--- MAY NAVIGATE
-
--- a source may navigate its top-level where the flag for navigations with or without a user isn't set
+-- May navigate: a source may navigate its top-level where the flag for navigations with or without a user isn't set
 abbrev pub may_leave : ℕ → Bool → Bool
 may_leave flags user = not (if user then has_top_by_user flags else has_top flags)
 
@@ -27,8 +25,7 @@ may_navigate t source target user =
     else if is_top_level t target && is (t.nav target).made.navigator source then true
     else not (has_navigation (flags_in t source))
 
--- FAMILIAR WITH
-
+-- Familiar with: whether two navigables show documents of one origin
 abbrev pub same_origin_shown : Tree → ℕ → ℕ → Bool
 same_origin_shown t a b = is_same_origin (origin_of t (t.nav a).active) (origin_of t (t.nav b).active)
 
@@ -48,16 +45,12 @@ familiar_through t (suc k) a b = is_known t a b || (is_top_level t b && is_opene
 abbrev pub is_familiar : Tree → ℕ → ℕ → Bool
 is_familiar t a b = familiar_through t t.navs a b
 
--- MAY CLOSE
-
 -- whether the source may close the target: a window that a document made and that isn't closing
 unfoldable pub may_close : Tree → ℕ → ℕ → Bool → Bool
 may_close t source target user =
     is_top_level t target && (t.nav target).made.scripted && not (t.nav target).closing && is_familiar t source target && may_navigate t source target user
 
--- CHOOSING
-
--- n, then the walk from each child in order, at most k deep
+-- Choosing: n, then the walk from each child in order, at most k deep
 unfoldable pub walk_from : Tree → ℕ → ℕ → List ℕ
 walk_from t zero n = []
 walk_from t (suc k) n = n ∷ flat_map (λ c. walk_from t k c) (children_of t (t.nav n).active)

@@ -1,12 +1,15 @@
--- What registers hold: the newest write to each. Registers are this project's own; they belong to a document.
-use Rattle.std.specs.Prelude.{ℕ, List, Option, Some, None, ◌==◌, ◌&&◌, bytes_eq, if◌then◌else◌}
-use Rattle.window_props.specs.declared.value.Value.{Value}
-use Rattle.single_agent.specs.declared.step.Step.{Step}
+-- What registers hold: the newest write to each, by an answer or by a message. Registers are this project's own; they belong
+-- to a document.
+use Rattle.std.specs.Prelude.{ℕ, List, Option, Some, None, ◌==◌, ◌&&◌, bytes_eq, codes, if◌then◌else◌}
+use Rattle.std.specs.Option.{option_map_or}
+use Rattle.origin_core.specs.Origin.{origin_text}
+use Rattle.single_agent.specs.Names.{Value, Step, Answer, Entry, What, Post, Fire}
+use Rattle.tree_log.specs.Log.{entry_at}
+use Rattle.window_props.specs.declared.value.Value.TheVariants as value
 use Rattle.single_agent.specs.declared.step.Step.TheVariants as step
-use Rattle.single_agent.specs.declared.act.Answer.{Answer}
 use Rattle.single_agent.specs.declared.act.Answer.TheVariants as answer
 use Rattle.single_agent.specs.declared.outcome.Outcome.TheVariants as outcome
-use Rattle.single_agent.specs.Values.{undefined}
+use Rattle.single_agent.specs.Values.{undefined, text}
 
 -- nothing was written yet
 abbrev pub unset : ℕ → List ℕ → Value
@@ -33,3 +36,14 @@ value_in _ = undefined
 abbrev pub written_to : ℕ → Option (List ℕ) → Value → (ℕ → List ℕ → Value) → ℕ → List ℕ → Value
 written_to d None v registers = registers
 written_to d (Some name) v registers = written d name v registers
+
+-- what a message writes (HTML Standard, 9.3.3: the event's data, origin and source)
+abbrev pub message_written : ℕ → What → (ℕ → List ℕ → Value) → ℕ → List ℕ → Value
+message_written d (Post to from origin target body) registers =
+    written d (codes "data") (value.Plain body) (written d (codes "origin") (text (origin_text origin)) (written d (codes "source") (value.Window from) registers))
+message_written d _ registers = registers
+
+-- what the task with this entry writes, on a log: a message that fires is that at its place
+abbrev pub task_written : List Entry → What → (ℕ → List ℕ → Value) → ℕ → List ℕ → Value
+task_written log (Fire doc post) registers = option_map_or (λ (e : Entry). message_written doc e.what registers) (entry_at log post) registers
+task_written log _ registers = registers

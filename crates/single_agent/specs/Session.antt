@@ -1,32 +1,32 @@
--- A session: the script of a document, and its log before the first turn. Sessions are this project's own.
-use Rattle.std.specs.Prelude.{ℕ, ◌+◌, List, [], ◌∷◌, find, Option, Some, None, false, bytes_eq, if◌then◌else◌}
+-- A session: the scripts and handlers of documents, the losses of renderers, and its log before the first turn. Sessions are this project's own.
+use Rattle.std.specs.Prelude.{ℕ, ◌+◌, List, [], ◌∷◌, find, Option, Some, None, false, ◌==◌, bytes_eq, if◌then◌else◌}
 use Rattle.origin_core.specs.Page.{without_fragment}
 use Rattle.origin_core.specs.Flags.{has_scripts}
 use Rattle.origin_core.specs.Origin.{loaded_origin, start_origin}
-use Rattle.tree_log.specs.declared.entry.Entry.{Entry}
-use Rattle.tree_log.specs.declared.entry.Load.{Load}
-use Rattle.tree_log.specs.declared.entry.What.TheVariants.{Open}
+use Rattle.single_agent.specs.Names.{Session, Lose, Point, Script, Handler, Step, Entry, Load, Open}
 use Rattle.tree_log.specs.Tree.{Tree, tree_of, nav_of}
-use Rattle.single_agent.specs.declared.session.Session.{Session}
 use Rattle.single_agent.specs.declared.session.Page.{Page}
-use Rattle.single_agent.specs.declared.step.Step.{Step}
 use Rattle.single_agent.specs.Decision.{Rules, rules_of, load_of}
 
--- the script of the page that a document's URL names, whatever its fragment; a URL that no page has gives none
-abbrev pub script_in : Option Page → List Step
-script_in None = []
-script_in (Some page) = page.script
+-- the steps of a page that a point is in: its script, or its handler of messages
+abbrev pub steps_in : Point → Option Page → List Step
+steps_in point None = []
+steps_in (Script made) (Some page) = page.script
+steps_in (Handler place made) (Some page) = page.handler
 
-unfoldable pub script_at : Session → List ℕ → List Step
-script_at s url = script_in (find (λ (page : Page). bytes_eq page.url (without_fragment url)) s.pages)
+-- those of the page that a document's URL names, whatever its fragment; a URL that no page has gives none
+unfoldable pub steps_at : Session → List ℕ → Point → List Step
+steps_at s url point = steps_in point (find (λ (page : Page). bytes_eq page.url (without_fragment url)) s.pages)
 
 -- a document whose sandbox forbids scripts runs none (HTML Standard, 7.1.5, the sandboxed scripts browsing context flag)
-unfoldable pub script_of : Session → Tree → (ℕ → List ℕ) → ℕ → List Step
-script_of s t urls d = if has_scripts (t.nav (nav_of t d)).made.flags then [] else script_at s (urls d)
+unfoldable pub steps_of : Session → Tree → (ℕ → List ℕ) → ℕ → Point → List Step
+steps_of s t urls d point = if has_scripts (t.nav (nav_of t d)).made.flags then [] else steps_at s (urls d) point
 
--- THE START WINDOWS
+-- the loss of a renderer that a session wants
+abbrev pub lose_of : Session → ℕ → Option Lose
+lose_of s r = find (λ (l : Lose). l.renderer == r) s.lose
 
--- what the next start window loads, on the tree so far
+-- The start windows: what the next one loads, on the tree so far
 abbrev pub start_load : Rules → Tree → List ℕ → Load
 start_load rules t url = load_of rules t t.groups (t.docs + 1) (loaded_origin false (t.docs + 1) (start_origin (t.docs + 1)) url) url
 

@@ -40,7 +40,7 @@ pub enum TaskKind {
 /// A line of a renderer's record. `at` is the number of entries of the log that the renderer had heard.
 #[derive(Drop)]
 pub enum Act {
-    /// A step of a document's script, and what it answered.
+    /// A step of a document's script or handler, and what it answered.
     Step {
         at: u32,
         doc: u32,
@@ -54,13 +54,17 @@ pub enum Act {
         kind: TaskKind,
         place: u32,
     },
+    /// The link to the coordinator failed as the renderer asked for a task.
+    LostTask {
+        at: u32,
+    },
 }
 
-/// A script that runs: its document, and how many of its steps were made.
+/// A script or a handler that runs: its document, and where its next step stands.
 #[derive(Clone, Copy, Debug, PartialEq, Eq)]
 pub struct Running {
     pub doc: u32,
-    pub made: u32,
+    pub point: Point,
 }
 
 /// A write to a register of a document.
@@ -99,6 +103,8 @@ pub enum Move {
     },
     /// No step is left, so the renderer takes its next task, if there is one.
     Takes,
+    /// The renderer has stopped: its link to the coordinator failed.
+    Stays,
 }
 
 /// How a play ended.

@@ -15,5 +15,5 @@ mod step;
 pub use act::{Act, Answer, Ending, Move, Performed, Point, Running, TaskKind, Write};
 pub use outcome::{Ask, Op, Outcome, Rule, Ruling};
 pub use request::{ReplyOutcome, Request, Why};
-pub use session::{Page, Session};
+pub use session::{Lose, Page, Session};
 pub use step::{OpName, Operand, Step};

@@ -13,6 +13,16 @@ pub struct Page {
     pub handler: Items<Step>,
 }
 
+/// The loss of a renderer that a session wants: which of its exchanges with the coordinator fails.
+#[derive(Clone, Copy, Debug, PartialEq, Eq)]
+pub struct Lose {
+    pub renderer: u16,
+    /// The number of the exchange, from 1, among those that give an act.
+    pub call: u32,
+    /// Whether the coordinator serves it before the link fails.
+    pub served: bool,
+}
+
 /// A session: renderers, the windows that are open at the start, and the pages that there are.
 #[derive(Drop)]
 pub struct Session {
@@ -24,5 +34,7 @@ pub struct Session {
     pub start: Items<PageUrl>,
     /// Whose turns come first: numbers of renderers. After them each renderer has a turn in each round.
     pub order: Items<u16>,
+    /// The renderers that are lost, each at most once.
+    pub lose: Items<Lose>,
     pub pages: Items<Page>,
 }

@@ -1,9 +1,9 @@
 -- The lines of a record, an act at a time.
 use Rattle.std.proofs.Common.{◌≡◌, ℕ, ◌+◌, ◌<◌, ◌≤◌, List, [], ◌∷◌, ◌++◌, length, reverse, take, get_or, codes, decimal, sym, ap, ◌∙◌, take_all}
 use Rattle.std.proofs.lemmas.List.{take_more, length-reverse, reverse-append}
-use Rattle.tree_log.specs.LogText.{◌◊◌}
+use Rattle.trace_text.specs.LogText.{◌◊◌}
 use Rattle.single_agent.specs.declared.act.Act.{Act}
-use Rattle.single_agent.specs.RecordText.{act_line, act_lines, record_words}
+use Rattle.trace_text.specs.RecordText.{act_line, act_lines, record_words}
 
 -- one line more
 pub act_more : (acts : List Act) (i : ℕ) (a : Act) → i < length acts

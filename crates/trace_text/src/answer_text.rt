@@ -1,6 +1,6 @@
 ghost use Rattle.std.specs.Prelude.{◌≡◌, ◌++◌, OnOk, IfOk, string_bytes};
 ghost use Rattle.plain_data.specs.Commas.{comma_after};
-ghost use Rattle.single_agent.specs.RecordText.{rule_words, keys_words, own_words, outcome_words, answer_words};
+ghost use Rattle.trace_text.specs.RecordText.{rule_words, keys_words, own_words, outcome_words, answer_words};
 ghost use Rattle.window_props.specs.ValueText as spec;
 
 use plain_data::{Text, quote};
@@ -20,7 +20,7 @@ pub fn answer_text(alloc: Global, answer: &Answer) -> Result<Text, AllocError>
 }
 
 // A value, a truth, the keys, the property or `undefined`, or the name of the exception.
-#[tactic(auto, unfolding(single_agent::specs::RecordText::outcome_words))]
+#[tactic(auto, unfolding(crate::specs::RecordText::outcome_words))]
 fn outcome_text(alloc: Global, outcome: &Outcome) -> Result<Text, AllocError>
     ensures { IfOk result (λ text. text ≡ outcome_words outcome.now) }
 {
@@ -48,7 +48,7 @@ fn truth_text(truth: bool) -> &'static str
     if truth { "true" } else { "false" }
 }
 
-#[tactic(auto, unfolding(single_agent::specs::RecordText::own_words))]
+#[tactic(auto, unfolding(crate::specs::RecordText::own_words))]
 fn own_text(alloc: Global, property: &Option<Descriptor>) -> Result<Text, AllocError>
     ensures { IfOk result (λ text. text ≡ own_words property.now) }
 {
@@ -58,7 +58,7 @@ fn own_text(alloc: Global, property: &Option<Descriptor>) -> Result<Text, AllocE
     }
 }
 
-#[tactic(auto, unfolding(single_agent::specs::RecordText::rule_words))]
+#[tactic(auto, unfolding(crate::specs::RecordText::rule_words))]
 fn rule_text(rule: Rule) -> &'static str
     ensures { result.now ≡ rule_words rule }
 {
@@ -75,7 +75,7 @@ fn rule_text(rule: Rule) -> &'static str
 }
 
 // The keys' texts as a JSON list of strings, without spaces.
-#[tactic(auto, unfolding(single_agent::specs::RecordText::keys_words))]
+#[tactic(auto, unfolding(crate::specs::RecordText::keys_words))]
 fn keys_text(alloc: Global, keys: &[Key]) -> Result<Text, AllocError>
     ensures { IfOk result (λ text. text ≡ keys_words keys.now) }
 {

@@ -1,5 +1,5 @@
 ghost use Rattle.std.specs.Prelude.{◌≡◌, ◌++◌, Some, OnOk, IfOk, string_bytes, encode_utf8};
-ghost use Rattle.tree_log.specs.LogText.{numbered, load_words, begin_words, open_front, open_back, frame_front, frame_back, what_words, entry_line, log_words};
+ghost use Rattle.trace_text.specs.LogText.{numbered, load_words, begin_words, target_words, cause_words, open_front, open_back, frame_front, frame_back, what_words, entry_line, log_words};
 
 #[cfg(test)]
 mod tests;
@@ -8,7 +8,7 @@ use origin_core::{Flags, Origin};
 use plain_data::{Text, quote, text_of};
 use std::alloc::{AllocError, Global};
 use std::fmt;
-use tree_log::{Entry, Load, Log, What};
+use tree_log::{Cause, Entry, Load, Log, Target, What};
 
 /// A number after its letter, as in `n1`, or a dash where there is none.
 #[derive(Clone, Copy)]
@@ -40,7 +40,7 @@ pub fn log_text(alloc: Global, log: &Log) -> Result<Text, AllocError>
     Ok(Text::from_string(out))
 }
 
-#[tactic(auto, unfolding(tree_log::specs::LogText::entry_line))]
+#[tactic(auto, unfolding(crate::specs::LogText::entry_line))]
 fn push_entry(
     alloc: Global,
     out: &mut String,
@@ -62,7 +62,7 @@ fn widened(number: Option<u16>) -> Option<u32>
     number.map(u32::from)
 }
 
-#[tactic(auto, unfolding(tree_log::specs::LogText::what_words))]
+#[tactic(auto, unfolding(crate::specs::LogText::what_words))]
 fn push_what(alloc: Global, out: &mut String, what: &What) -> Result<(), AllocError>
     ensures { OnOk result (string_bytes out.new ≡ string_bytes out.old ++ what_words what.now) }
 {
@@ -116,6 +116,7 @@ fn push_what(alloc: Global, out: &mut String, what: &What) -> Result<(), AllocEr
             target,
             body,
         } => {
+            let target = target_text(alloc, target)?;
             let body = text_of(alloc, body)?;
             let body = body.as_str();
             write!(
@@ -124,7 +125,10 @@ fn push_what(alloc: Global, out: &mut String, what: &What) -> Result<(), AllocEr
             )
         }
         What::Fire { doc, post } => write!(out, "fire d{doc} post={post}"),
-        What::Lapse { doc, post, cause } => write!(out, "lapse d{doc} post={post} cause={cause}"),
+        What::Lapse { doc, post, cause } => {
+            let cause = cause_text(*cause);
+            write!(out, "lapse d{doc} post={post} cause={cause}")
+        }
         What::Closing { nav } => write!(out, "closing n{nav}"),
         What::Gone { nav } => write!(out, "gone n{nav}"),
         What::Lost { renderer } => write!(out, "lost r{renderer}"),
@@ -133,7 +137,7 @@ fn push_what(alloc: Global, out: &mut String, what: &What) -> Result<(), AllocEr
     }
 }
 
-#[tactic(auto, unfolding(tree_log::specs::LogText::open_front))]
+#[tactic(auto, unfolding(crate::specs::LogText::open_front))]
 fn push_open_front(
     out: &mut String,
     nav: u32,
@@ -150,7 +154,7 @@ fn push_open_front(
     )
 }
 
-#[tactic(auto, unfolding(tree_log::specs::LogText::open_back))]
+#[tactic(auto, unfolding(crate::specs::LogText::open_back))]
 fn push_open_back(
     alloc: Global,
     out: &mut String,
@@ -172,7 +176,7 @@ fn push_open_back(
     )
 }
 
-#[tactic(auto, unfolding(tree_log::specs::LogText::frame_front))]
+#[tactic(auto, unfolding(crate::specs::LogText::frame_front))]
 fn push_frame_front(
     out: &mut String,
     nav: u32,
@@ -185,7 +189,7 @@ fn push_frame_front(
     write!(out, "frame n{nav} d{doc} home={home} origin={origin}")
 }
 
-#[tactic(auto, unfolding(tree_log::specs::LogText::frame_back))]
+#[tactic(auto, unfolding(crate::specs::LogText::frame_back))]
 fn push_frame_back(
     alloc: Global,
     out: &mut String,
@@ -215,8 +219,28 @@ fn load_text(alloc: Global, load: &Option<Load>) -> Result<String, AllocError>
     }
 }
 
+// The origins that a message is for: `*`, `never`, or the origin.
+fn target_text(alloc: Global, target: &Target) -> Result<String, AllocError>
+    ensures { IfOk result (λ text. string_bytes text ≡ target_words target.now) }
+{
+    match target {
+        Target::Any => String::from_str(alloc, "*"),
+        Target::Never => String::from_str(alloc, "never"),
+        Target::Origin(origin) => format!(in alloc; "{origin}"),
+    }
+}
+
+fn cause_text(cause: Cause) -> &'static str
+    ensures { result.now ≡ cause_words cause }
+{
+    match cause {
+        Cause::Inactive => "inactive",
+        Cause::Origin => "origin",
+    }
+}
+
 // What an existing navigable begins to load.
-#[tactic(auto, unfolding(tree_log::specs::LogText::what_words))]
+#[tactic(auto, unfolding(crate::specs::LogText::what_words))]
 fn push_begin(alloc: Global, out: &mut String, nav: u32, load: &Load) -> Result<(), AllocError>
     ensures { OnOk result (string_bytes out.new ≡ string_bytes out.old ++ what_words (What.Begin nav load.now)) }
 {

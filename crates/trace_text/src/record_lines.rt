@@ -1,5 +1,5 @@
 ghost use Rattle.std.specs.Prelude.{◌≡◌, ◌++◌, OnOk, IfOk, string_bytes, reverse};
-ghost use Rattle.single_agent.specs.RecordText.{point_words, op_words, kind_words, act_line, record_words};
+ghost use Rattle.trace_text.specs.RecordText.{point_words, op_words, kind_words, act_line, record_words};
 ghost use Rattle.std.specs.Prelude.{Some};
 
 #[cfg(test)]
@@ -25,7 +25,7 @@ impl fmt::Display for At {
     }
 }
 
-#[tactic(auto, unfolding(single_agent::specs::RecordText::op_words))]
+#[tactic(auto, unfolding(crate::specs::RecordText::op_words))]
 fn op_text(op: OpName) -> &'static str
     ensures { result.now ≡ op_words op }
 {
@@ -51,7 +51,7 @@ fn op_text(op: OpName) -> &'static str
     }
 }
 
-#[tactic(auto, unfolding(single_agent::specs::RecordText::kind_words))]
+#[tactic(auto, unfolding(crate::specs::RecordText::kind_words))]
 fn kind_text(kind: TaskKind) -> &'static str
     ensures { result.now ≡ kind_words kind }
 {
@@ -63,7 +63,7 @@ fn kind_text(kind: TaskKind) -> &'static str
     }
 }
 
-#[tactic(auto, unfolding(single_agent::specs::RecordText::act_line))]
+#[tactic(auto, unfolding(crate::specs::RecordText::act_line))]
 fn push_act(alloc: Global, out: &mut String, act: &Act) -> Result<(), AllocError>
     ensures { OnOk result (string_bytes out.new ≡ string_bytes out.old ++ act_line act.now) }
 {
@@ -83,13 +83,15 @@ fn push_act(alloc: Global, out: &mut String, act: &Act) -> Result<(), AllocError
             let kind = kind_text(*kind);
             writeln!(out, "{at} task {kind} {place}")
         }
+        Act::LostTask { at } => writeln!(out, "{at} task lost"),
     }
 }
 
 /// The text of a renderer's record: `record`, the renderer and the number of acts, and then a line for each act, in
 /// order. The line of a step is how many entries the renderer had heard, the document, the place of the step in its
-/// page, the step's name and the answer; that of a task its kind and the place of its entry.
-#[tactic(auto, unfolding(single_agent::specs::RecordText::record_words))]
+/// page, the step's name and the answer; that of a task its kind and the place of its entry, or `lost` where the link
+/// to the coordinator failed.
+#[tactic(auto, unfolding(crate::specs::RecordText::record_words))]
 pub fn record_text(alloc: Global, renderer: u16, acts: &[Act]) -> Result<Text, AllocError>
     ensures { IfOk result (λ text. text ≡ record_words renderer (reverse acts.now)) }
 {

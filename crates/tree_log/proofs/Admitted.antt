@@ -7,7 +7,7 @@ use Rattle.std.proofs.lemmas.Bool.Decides.{nat_tests}
 use Rattle.tree_log.specs.declared.entry.Entry.{Entry}
 use Rattle.tree_log.specs.declared.entry.Load.{Load}
 use Rattle.tree_log.specs.declared.entry.What.{What}
-use Rattle.tree_log.specs.declared.entry.What.TheVariants.{Open, Frame, Begin}
+use Rattle.tree_log.specs.declared.entry.What.TheVariants.{Open, Frame, Begin, Post, Closing}
 use Rattle.tree_log.specs.Facts.{at, or_else, Birth, bears, bears_load, docs_after, navs_after, groups_after}
 use Rattle.tree_log.specs.Tree.{Tree, tree_of, after, tree_of_step, nav_of, home_of}
 use Rattle.tree_log.specs.Admits.{has, is_next, is_next_load, admits_what, admits, AreAdmitted}
@@ -87,7 +87,7 @@ pub born_stays : (t : Tree) (e : Entry) (d : ℕ) → admits t e ≡ true → d 
 unfolding after admits
 born_stays t e d h lt = ap (λ b. unwrap_or b (t.doc d).born) (none_born t e.by e.actor e.what d (both _ _ h).1 lt)
 
--- THE LOADS OF A LOG
+-- THE TASKS OF A LOG
 
 -- the document of a load is there, was made for its navigable, and has its home
 pub record StandsFor (t : Tree) (nav : ℕ) (load : Load) : Type 0 where
@@ -100,15 +100,18 @@ abbrev pub StandsIfAny : Tree → ℕ → Option Load → Type 0
 StandsIfAny t nav None = Unit {0}
 StandsIfAny t nav (Some load) = StandsFor t nav load
 
-abbrev pub LoadsStand : Tree → What → Type 0
-LoadsStand t (Open nav _ _ _ _ _ _ _ _ load) = StandsIfAny t nav load
-LoadsStand t (Frame nav _ _ _ _ _ load) = StandsIfAny t nav load
-LoadsStand t (Begin nav load) = StandsFor t nav load
-LoadsStand t _ = Unit {0}
+-- what the entry's task is about is there: its load, the document of its message, or its window
+abbrev pub TaskStands : Tree → What → Type 0
+TaskStands t (Open nav _ _ _ _ _ _ _ _ load) = StandsIfAny t nav load
+TaskStands t (Frame nav _ _ _ _ _ load) = StandsIfAny t nav load
+TaskStands t (Begin nav load) = StandsFor t nav load
+TaskStands t (Post to _ _ _ _) = to < t.docs
+TaskStands t (Closing nav) = nav < t.navs
+TaskStands t _ = Unit {0}
 
 abbrev pub AllStand : Tree → List Entry → Type 0
 AllStand t [] = Unit {0}
-AllStand t (e ∷ older) = LoadsStand t e.what × AllStand t older
+AllStand t (e ∷ older) = TaskStands t e.what × AllStand t older
 
 -- what stood stands once an entry more was admitted
 stands_later : (t : Tree) (e : Entry) (nav : ℕ) (load : Load) → admits t e ≡ true → StandsFor t nav load → StandsFor (after t e) nav load
@@ -126,15 +129,21 @@ any_later : (t : Tree) (e : Entry) (nav : ℕ) (load : Option Load) → admits t
 any_later t e nav None h s = tt
 any_later t e nav (Some load) h s = stands_later t e nav load h s
 
-loads_later : (t : Tree) (e : Entry) (w : What) → admits t e ≡ true → LoadsStand t w → LoadsStand (after t e) w
-loads_later t e (Open nav _ _ _ _ _ _ _ _ load) h s = any_later t e nav load h s
-loads_later t e (Frame nav _ _ _ _ _ load) h s = any_later t e nav load h s
-loads_later t e (Begin nav load) h s = stands_later t e nav load h s
-loads_later t e _ h s = tt
+tasks_later : (t : Tree) (e : Entry) (w : What) → admits t e ≡ true → TaskStands t w → TaskStands (after t e) w
+tasks_later t e (Open nav _ _ _ _ _ _ _ _ load) h s = any_later t e nav load h s
+tasks_later t e (Frame nav _ _ _ _ _ load) h s = any_later t e nav load h s
+tasks_later t e (Begin nav load) h s = stands_later t e nav load h s
+tasks_later t e (Post to _ _ _ _) h s =
+    let docs : t.docs ≤ (after t e).docs = subst (λ n. t.docs ≤ n) (sym (docs_at_step t e)) (docs_grow e.what t.docs) in
+    omega (arith, s)
+tasks_later t e (Closing nav) h s =
+    let navs : t.navs ≤ (after t e).navs = subst (λ n. t.navs ≤ n) (sym (navs_at_step t e)) (navs_grow e.what t.navs) in
+    omega (arith, s)
+tasks_later t e _ h s = tt
 
 all_later : (t : Tree) (e : Entry) (log : List Entry) → admits t e ≡ true → AllStand t log → AllStand (after t e) log
 all_later t e [] h s = tt
-all_later t e (x ∷ log) h s = (loads_later t e x.what h s.0, all_later t e log h s.1)
+all_later t e (x ∷ log) h s = (tasks_later t e x.what h s.0, all_later t e log h s.1)
 
 at_self : {A : Type 0} (n : ℕ) (x : A) → at n n x ≡ Some x
 at_self n x = rw (eq-eqb n n refl) refl
@@ -170,9 +179,15 @@ pub what_admitted : (t : Tree) (e : Entry) → admits t e ≡ true → admits_wh
 unfolding admits
 what_admitted t e h = (both _ _ h).1
 
-loads_here : (t : Tree) (by actor : Option ℕ) (w : What) → admits_what t by actor w ≡ true → LoadsStand (after t (record { by = by; actor = actor; what = w })) w
-loads_here t by actor (Open nav doc group home origin name opener flags navigator None) h = tt
-loads_here t by actor (Open nav doc group home origin name opener flags navigator (Some load)) h =
+post_there : (t : Tree) (e : Entry) (to : ℕ) → docs_after e.what t.docs ≡ t.docs → to < t.docs → to < (after t e).docs
+post_there t e to same lt = subst (λ n. to < n) (sym (docs_at_step t e ∙ same)) lt
+
+closing_there : (t : Tree) (e : Entry) (nav : ℕ) → navs_after e.what t.navs ≡ t.navs → nav < t.navs → nav < (after t e).navs
+closing_there t e nav same lt = subst (λ n. nav < n) (sym (navs_at_step t e ∙ same)) lt
+
+tasks_here : (t : Tree) (by actor : Option ℕ) (w : What) → admits_what t by actor w ≡ true → TaskStands (after t (record { by = by; actor = actor; what = w })) w
+tasks_here t by actor (Open nav doc group home origin name opener flags navigator None) h = tt
+tasks_here t by actor (Open nav doc group home origin name opener flags navigator (Some load)) h =
     let last = both _ (is_next (t.docs + 1) load.doc) h in
     let six = both _ _ last.0 in
     let five = both _ _ six.0 in
@@ -181,25 +196,27 @@ loads_here t by actor (Open nav doc group home origin name opener flags navigato
     let two = both _ (is_next t.navs nav) three.0 in
     makes_both t by actor (Open nav doc group home origin name opener flags navigator (Some load)) nav doc (record { nav = nav; origin = origin; home = home; loaded = false }) load
     (next_is t.docs doc three.1) (next_is (t.docs + 1) load.doc last.1) (next_is t.navs nav two.1) (omega arith) refl refl
-loads_here t by actor (Frame nav doc home origin name flags None) h = tt
-loads_here t by actor (Frame nav doc home origin name flags (Some load)) h =
+tasks_here t by actor (Frame nav doc home origin name flags None) h = tt
+tasks_here t by actor (Frame nav doc home origin name flags (Some load)) h =
     let last = both _ (is_next (t.docs + 1) load.doc) h in
     let three = both _ (is_next t.docs doc) last.0 in
     let two = both _ (is_next t.navs nav) three.0 in
     makes_both t by actor (Frame nav doc home origin name flags (Some load)) nav doc (record { nav = nav; origin = origin; home = home; loaded = false }) load
     (next_is t.docs doc three.1) (next_is (t.docs + 1) load.doc last.1) (next_is t.navs nav two.1) (omega arith) refl refl
-loads_here t by actor (Begin nav load) h =
+tasks_here t by actor (Begin nav load) h =
     let last = both _ (is_next t.docs load.doc) h in
     let two = both _ (has t.navs nav) last.0 in
     begins_there t by actor nav load (next_is t.docs load.doc last.1) (lt_of nav t.navs two.1)
-loads_here t by actor _ h = tt
+tasks_here t by actor (Post to from origin target body) h = post_there t (record { by = by; actor = actor; what = Post to from origin target body }) to refl (lt_of to t.docs (both _ _ (both _ _ h).0).1)
+tasks_here t by actor (Closing nav) h = closing_there t (record { by = by; actor = actor; what = Closing nav }) nav refl (lt_of nav t.navs (both _ _ h).1)
+tasks_here t by actor _ h = tt
 
--- each load of an admitted log stands
-pub loads_stand : (log : List Entry) → AreAdmitted log → AllStand (tree_of log) log
-loads_stand [] h = tt
-loads_stand (e ∷ older) h =
-    let rest : AllStand (after (tree_of older) e) older = all_later (tree_of older) e older h.0 (loads_stand older h.1) in
-    subst (λ (t : Tree). AllStand t (e ∷ older)) (sym (tree_of_step e older)) (loads_here (tree_of older) e.by e.actor e.what (what_admitted (tree_of older) e h.0), rest)
+-- what each task of an admitted log is about is there
+pub tasks_stand : (log : List Entry) → AreAdmitted log → AllStand (tree_of log) log
+tasks_stand [] h = tt
+tasks_stand (e ∷ older) h =
+    let rest : AllStand (after (tree_of older) e) older = all_later (tree_of older) e older h.0 (tasks_stand older h.1) in
+    subst (λ (t : Tree). AllStand t (e ∷ older)) (sym (tree_of_step e older)) (tasks_here (tree_of older) e.by e.actor e.what (what_admitted (tree_of older) e h.0), rest)
 
 -- HOW MANY THERE ARE
 

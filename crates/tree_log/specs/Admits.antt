@@ -1,15 +1,9 @@
--- Whether an entry can follow a log: what it names is there, what it makes has the next numbers, and who made it may. This
--- project's own.
+-- Whether an entry can follow a log, this project's own: what it names is there, what it makes has the next numbers, and who made it may.
 use Rattle.std.specs.Prelude.{ℕ, ◌+◌, List, [], ◌∷◌, IsTrue, Option, Some, None, Bool, true, false, not, ◌&&◌, ◌||◌, ◌==◌, nat_lt}
-use Rattle.tree_log.specs.declared.entry.Entry.{Entry}
-use Rattle.tree_log.specs.declared.entry.Load.{Load}
-use Rattle.tree_log.specs.declared.entry.What.{What}
-use Rattle.tree_log.specs.declared.entry.What.TheVariants.{Open, Frame, Drop, Name, Begin, Commit, Fragment, Opener, Post, Fire, Lapse, Closing, Gone, Lost, Sync, Hidden}
+use Rattle.tree_log.specs.Names.{Entry, Load, What, Open, Frame, Drop, Name, Begin, Commit, Fragment, Opener, Post, Fire, Lapse, Closing, Gone, Lost, Sync, Hidden}
 use Rattle.tree_log.specs.Tree.{Tree, tree_of, nav_of, is_active}
 
--- WHO MADE IT
-
--- no renderer and no document
+-- Who made it: no renderer and no document
 abbrev pub is_nobodys : Option ℕ → Option ℕ → Bool
 is_nobodys None None = true
 is_nobodys _ _ = false
@@ -24,9 +18,7 @@ abbrev pub is_documents : Tree → Option ℕ → Option ℕ → Bool
 is_documents t (Some r) (Some d) = nat_lt d t.docs && is_active t d
 is_documents t _ _ = false
 
--- NUMBERS
-
--- the number is one of so many
+-- Numbers: this one is one of so many
 abbrev pub has : ℕ → ℕ → Bool
 has count number = nat_lt number count
 
@@ -42,19 +34,16 @@ abbrev pub is_next_load : ℕ → Option Load → Bool
 is_next_load count None = true
 is_next_load count (Some load) = is_next count load.doc
 
--- WHAT HAPPENED
-
+-- whether what happened can follow, by whom it was made and what it names
 abbrev pub admits_what : Tree → Option ℕ → Option ℕ → What → Bool
 admits_what t by actor (Open nav doc group _ _ _ opener _ navigator load) =
     (is_nobodys by actor || is_documents t by actor) && is_next t.navs nav && is_next t.docs doc
     && (has t.groups group || is_next t.groups group) && has_if_any t.navs opener && has_if_any t.navs navigator && is_next_load (t.docs + 1) load
-admits_what t by actor (Frame nav doc _ _ _ _ load) =
-    is_documents t by actor && is_next t.navs nav && is_next t.docs doc && is_next_load (t.docs + 1) load
+admits_what t by actor (Frame nav doc _ _ _ _ load) = is_documents t by actor && is_next t.navs nav && is_next t.docs doc && is_next_load (t.docs + 1) load
 admits_what t by actor (Drop nav) = is_documents t by actor && has t.navs nav
 admits_what t by actor (Name nav _) = is_documents t by actor && has t.navs nav
 admits_what t by actor (Begin nav load) = is_documents t by actor && has t.navs nav && is_next t.docs load.doc
-admits_what t by actor (Commit nav doc _) =
-    is_renderers by actor && has t.navs nav && has t.docs doc && nav_of t doc == nav && not (t.doc doc).been_active
+admits_what t by actor (Commit nav doc _) = is_renderers by actor && has t.navs nav && has t.docs doc && nav_of t doc == nav && not (t.doc doc).been_active
 admits_what t by actor (Fragment nav doc _) = is_documents t by actor && has t.navs nav && has t.docs doc
 admits_what t by actor (Opener nav to) = is_documents t by actor && has t.navs nav && has_if_any t.navs to
 admits_what t by actor (Post to from _ _ _) = is_documents t by actor && has t.docs to && has t.navs from

@@ -3,10 +3,7 @@
 use Rattle.std.specs.Prelude.{ℕ, List, [], ◌∷◌, Option, Some, None, Bool, false, not, filter, codes, ◌==◌, ◌&&◌, if◌then◌else◌}
 use Rattle.std.specs.List.{list_any, range_with_len}
 use Rattle.origin_core.specs.Origin.{blank_text, is_same_origin_domain}
-use Rattle.tree_log.specs.declared.entry.Entry.{Entry}
-use Rattle.tree_log.specs.declared.entry.Load.{Load}
-use Rattle.tree_log.specs.declared.entry.What.{What}
-use Rattle.tree_log.specs.declared.entry.What.TheVariants.{Open, Frame, Begin, Fragment, Post, Fire, Lapse, Hidden}
+use Rattle.tree_log.specs.Names.{Entry, Load, What, Open, Frame, Begin, Fragment, Post, Fire, Lapse, Hidden}
 use Rattle.tree_log.specs.Tree.{Tree, home_of, origin_of, nav_of, same_group}
 
 -- the URL of a document that isn't kept becomes that of the root of its origin
@@ -43,9 +40,7 @@ abbrev pub blanked : (ℕ → Bool) → List Entry → List Entry
 blanked kept [] = []
 blanked kept (e ∷ older) = blank kept e ∷ blanked kept older
 
--- WHAT IS KEPT
-
--- the document is one of these
+-- What is kept: the document is one of these
 abbrev pub is_kept : List ℕ → ℕ → Bool
 is_kept kept d = list_any (λ k. k == d) kept
 

@@ -1,11 +1,7 @@
 -- What each entry of a log says of a navigable or of a document (HTML Standard, 7.3). The newest entry that says something decides.
 use Rattle.std.specs.Prelude.{ℕ, ◌+◌, List, [], ◌∷◌, ◌++◌, Option, Some, None, Bool, true, false, ◌||◌, ◌==◌, if◌then◌else◌, unwrap_or, is_some}
-use Rattle.tree_log.specs.declared.entry.Entry.{Entry}
-use Rattle.tree_log.specs.declared.entry.Load.{Load}
+use Rattle.tree_log.specs.Names.{Entry, Load, What, Open, Frame, Drop, Name, Begin, Commit, Opener, Closing, Gone}
 use Rattle.origin_core.specs.declared.origin.Origin.{Origin}
-use Rattle.origin_core.specs.declared.origin.Origin.TheVariants.{Opaque}
-use Rattle.tree_log.specs.declared.entry.What.{What}
-use Rattle.tree_log.specs.declared.entry.What.TheVariants.{Open, Frame, Drop, Name, Begin, Commit, Opener, Closing, Gone}
 
 -- what the newest entry that says something says, or else first
 abbrev pub newest : {A : Type 0} → (Entry → Option A) → A → List Entry → A
@@ -87,7 +83,7 @@ pub record Birth : Type 0 where
 
 -- of a document that was not made: its home is no renderer
 abbrev pub no_birth : Birth
-no_birth = record { nav = 0; origin = Opaque 0; home = 65536; loaded = false }
+no_birth = record { nav = 0; origin = Origin.Opaque 0; home = 65536; loaded = false }
 
 abbrev pub or_else : {A : Type 0} → Option A → Option A → Option A
 or_else (Some x) _ = Some x

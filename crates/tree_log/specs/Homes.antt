@@ -1,25 +1,20 @@
 -- The renderer that is to hold a new document: one for all documents of one group and site, as for the agent clusters that are
 -- keyed by sites (HTML Standard, 7.3.2.3). Which renderer it is, is this project's own.
-use Rattle.std.specs.Prelude.{ℕ, ◌%◌, List, [], ◌∷◌, length, find, Option, Some, None, Bool, false, ◌==◌, ◌&&◌, bytes_eq, if◌then◌else◌}
+use Rattle.std.specs.Prelude.{ℕ, ◌%◌, List, [], ◌∷◌, length, find, Some, None, Bool, false, ◌==◌, ◌&&◌, bytes_eq, if◌then◌else◌}
 use Rattle.std.specs.List.{list_any}
 use Rattle.origin_core.specs.declared.site.Site.{Site}
-use Rattle.origin_core.specs.declared.site.Site.TheVariants as site
 use Rattle.origin_core.specs.Origin.{is_same_scheme}
 use Rattle.origin_core.specs.Site.{site_of}
-use Rattle.tree_log.specs.Tree.{Tree, nav_of, origin_of, home_of, group_of}
+use Rattle.tree_log.specs.Tree.{Tree, is, nav_of, origin_of, home_of, group_of}
 
 abbrev pub is_same_site : Site → Site → Bool
-is_same_site (site.Named s a) (site.Named t b) = is_same_scheme s t && bytes_eq a b
-is_same_site (site.Opaque m) (site.Opaque n) = m == n
+is_same_site (Site.Named s a) (Site.Named t b) = is_same_scheme s t && bytes_eq a b
+is_same_site (Site.Opaque m) (Site.Opaque n) = m == n
 is_same_site _ _ = false
-
-abbrev pub is_group : Option ℕ → ℕ → Bool
-is_group None group = false
-is_group (Some g) group = g == group
 
 -- whether the document is of this group and site, by a list of public suffixes
 abbrev pub is_of : List (List ℕ) → Tree → ℕ → Site → ℕ → Bool
-is_of suffixes t group s d = is_group (group_of t (nav_of t d)) group && is_same_site (site_of (origin_of t d) suffixes) s
+is_of suffixes t group s d = is (group_of t (nav_of t d)) group && is_same_site (site_of (origin_of t d) suffixes) s
 
 -- whether two documents are of one group and one site
 abbrev pub is_alike : List (List ℕ) → Tree → ℕ → ℕ → Bool

@@ -1,3 +1,4 @@
+pub mod Names
 pub mod Range
 pub mod Log
 pub mod Facts
@@ -7,6 +8,3 @@ pub mod NamedChildren
 pub mod Admits
 pub mod Homes
 pub mod Blanking
-pub mod LogText
-pub mod HomeRows
-pub mod Examples

@@ -1,6 +1,6 @@
 -- The log, this project's own: a list of entries, the newest first. The place of an entry is the number of entries before it.
-use Rattle.std.specs.Prelude.{ℕ, List, [], ◌∷◌, length, Option, Some, None, Bool, false, nat_le, ◌==◌, if◌then◌else◌, filter}
-use Rattle.tree_log.specs.declared.entry.Entry.{Entry}
+use Rattle.std.specs.Prelude.{ℕ, List, [], ◌∷◌, length, Option, Some, None, Bool, false, nat_le, ◌==◌, if◌then◌else◌}
+use Rattle.tree_log.specs.Names.{Entry}
 
 -- what contracts see of a log: its entries, and for how many pushes there is room
 pub record LogValue : Type 0 where
@@ -25,7 +25,3 @@ is (Some m) n = m == n
 -- whether renderer r made the entry
 abbrev pub is_by : ℕ → Entry → Bool
 is_by r e = is e.by r
-
--- the entries that renderer r made
-unfoldable pub made_by : ℕ → List Entry → List Entry
-made_by r log = filter (is_by r) log

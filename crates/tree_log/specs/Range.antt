@@ -2,19 +2,14 @@
 use Rattle.std.specs.Prelude.{List, All, IfSome, ⊤}
 use Rattle.origin_core.specs.Origin.{IsOrigin}
 use Rattle.origin_core.specs.Page.{IsPageText}
-use Rattle.tree_log.specs.declared.entry.Entry.{Entry}
-use Rattle.tree_log.specs.declared.entry.Load.{Load}
-use Rattle.tree_log.specs.declared.entry.Target.{Target}
-use Rattle.tree_log.specs.declared.entry.Target.TheVariants as target
-use Rattle.tree_log.specs.declared.entry.What.{What}
-use Rattle.tree_log.specs.declared.entry.What.TheVariants.{Open, Frame, Begin, Fragment, Post}
+use Rattle.tree_log.specs.Names.{Entry, Load, Target, What, Open, Frame, Begin, Fragment, Post}
 
 -- the URL is that of a page, and the origin is in range
 abbrev pub IsLoadInRange : Load → Type 0
 IsLoadInRange load = IsPageText load.url × IsOrigin load.origin
 
 abbrev pub IsTargetInRange : Target → Type 0
-IsTargetInRange (target.Origin origin) = IsOrigin origin
+IsTargetInRange (Target.Origin origin) = IsOrigin origin
 IsTargetInRange _ = ⊤
 
 -- every origin and URL of what happened is in range

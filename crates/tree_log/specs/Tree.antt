@@ -1,8 +1,9 @@
 -- The tree of navigables that a log makes (HTML Standard, 7.3): what the log says of each navigable and document, and what follows from that.
 use Rattle.std.specs.Prelude.{ℕ, zero, suc, List, [], ◌∷◌, length, filter, Option, Some, None, Bool, true, false, not, ◌||◌, ◌&&◌, ◌==◌, if◌then◌else◌, unwrap_or, is_none, ◌≡◌, refl}
 use Rattle.std.specs.List.{list_any}
-use Rattle.tree_log.specs.declared.entry.Entry.{Entry}
+use Rattle.tree_log.specs.Names.{Entry}
 use Rattle.origin_core.specs.declared.origin.Origin.{Origin}
+pub use Rattle.tree_log.specs.Log.{is}
 use Rattle.tree_log.specs.Facts.{newest, some_entry, gathered, Making, no_making, making, activates, drops, closes, asks_to_close, names, opens, loads_in, Birth, no_birth, bears, shows, frames_after, loads_after, tops_after, navs_after, docs_after, groups_after}
 
 -- what is known of a navigable
@@ -164,11 +165,6 @@ group_of t n = (t.nav (root_of t n)).made.group
 -- the children of d, in order
 unfoldable pub children_of : Tree → ℕ → List ℕ
 children_of t d = if is_active t d then filter (λ n. not (t.nav n).dropped) (t.frames d) else []
-
--- whether the number is there, and is n
-abbrev pub is : Option ℕ → ℕ → Bool
-is None n = false
-is (Some m) n = m == n
 
 -- whether both are there, and one number
 abbrev pub are_same : Option ℕ → Option ℕ → Bool

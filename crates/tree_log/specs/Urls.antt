@@ -1,9 +1,6 @@
 -- The URL of a document: that of the newest load or fragment navigation of it (DOM Standard, 4.5, a document's URL).
 use Rattle.std.specs.Prelude.{ℕ, List, ◌∷◌, Option, Some, None, codes, unwrap_or, ◌≡◌, refl}
-use Rattle.tree_log.specs.declared.entry.Entry.{Entry}
-use Rattle.tree_log.specs.declared.entry.Load.{Load}
-use Rattle.tree_log.specs.declared.entry.What.{What}
-use Rattle.tree_log.specs.declared.entry.What.TheVariants.{Open, Frame, Begin, Fragment}
+use Rattle.tree_log.specs.Names.{Entry, Load, What, Open, Frame, Begin, Fragment}
 use Rattle.tree_log.specs.Facts.{newest, at}
 
 abbrev pub load_url : ℕ → Option Load → Option (List ℕ)

@@ -1,15 +1,15 @@
-ghost use Rattle.std.specs.Prelude.{◌≡◌, ◌+◌, ◌≤◌, ◌^◌, ℕ, None, Some, IfOk, reverse, slice_set, get_or};
-ghost use Rattle.tree_log.specs.Facts.{docs_after};
-ghost use Rattle.tree_log.specs.HomeRows.{homes_in, noted, noted_load};
-ghost use Rattle.tree_log.specs.Tree.{tree_of};
+ghost use Rattle.std.specs.Prelude.{◌≡◌, ◌+◌, ◌≤◌, ◌<◌, ◌^◌, ℕ, None, Some, IfOk, length, reverse, slice_set, get_or, unwrap_or};
+ghost use Rattle.tree_log.specs.Facts.{Birth, bears, docs_after};
+ghost use Rattle.tree_log.specs.Tree.{tree_of, home_of};
 
 use crate::entry::{Entry, Load, What};
 use std::alloc::{AllocError, Global};
 
 /// The home of each document that some entries make, by its number. The entries stand with the oldest first.
-#[tactic(auto, using(crate::proofs::HomeRows::gathered_more))]
+#[tactic(auto, using(crate::proofs::HomeRows::home_more), unfolding(crate::specs::Tree::tree_of))]
 pub(crate) fn homes_of(alloc: Global, entries: &[Entry]) -> Result<Vec<Option<u16>>, AllocError>
-    ensures value { IfOk result (λ homes. homes.items ≡ homes_in (tree_of (reverse entries.now)).docs (reverse entries.now)) }
+    ensures count { IfOk result (λ homes. length homes.items ≡ (tree_of (reverse entries.now)).docs) }
+    ensures value { IfOk result (λ homes. (d : ℕ) → d < length homes.items → home_of (tree_of (reverse entries.now)) d ≡ unwrap_or (get_or homes.items d None) 65536) }
     ensures far { IfOk result (λ homes. (d : ℕ) → 2 ^ 32 ≤ d → get_or homes.items d None ≡ None) }
 {
     let mut homes = vec![in alloc; None; count_docs(entries)]?;
@@ -43,7 +43,8 @@ fn made_docs(what: &What) -> usize
 }
 
 fn note(homes: &mut Vec<Option<u16>>, what: &What)
-    ensures value { homes.new.items ≡ noted what.now homes.old.items }
+    ensures count { length homes.new.items ≡ length homes.old.items }
+    ensures value { (d : ℕ) (b : Birth) → d < length homes.old.items → b.home ≡ unwrap_or (get_or homes.old.items d None) 65536 → (unwrap_or (bears d what.now) b).home ≡ unwrap_or (get_or homes.new.items d None) 65536 }
     ensures far { (d : ℕ) → 2 ^ 32 ≤ d → get_or homes.new.items d None ≡ get_or homes.old.items d None }
 {
     match what {
@@ -68,7 +69,7 @@ fn note(homes: &mut Vec<Option<u16>>, what: &What)
 }
 
 fn note_load(homes: &mut Vec<Option<u16>>, load: &Option<Load>)
-    ensures value { homes.new.items ≡ noted_load load.now homes.old.items }
+    ensures value { homes.new.items ≡ elim load.now [ None ↦ homes.old.items | Some l ↦ slice_set homes.old.items l.doc (Some l.home) ] }
     ensures far { (d : ℕ) → 2 ^ 32 ≤ d → get_or homes.new.items d None ≡ get_or homes.old.items d None }
 {
     if let Some(load) = load {

@@ -3,8 +3,7 @@
 //! A coordinator keeps one [`Log`]. Contracts see it as a list of entries with the newest one first; the place
 //! of an entry is the number of entries before it. The definitions in `specs/` say what such a list means: the
 //! tree of navigables (`Tree`), the URLs of documents (`Urls`), the children that can be reached by name
-//! (`NamedChildren`), what a log shows to one who may see only some documents (`Blanking`), and how a log
-//! prints (`LogText`).
+//! (`NamedChildren`), and what a log shows to one who may see only some documents (`Blanking`).
 #![tactic(auto)]
 
 mod blanking;
@@ -16,7 +15,6 @@ mod log;
 mod range;
 #[cfg(test)]
 mod tests;
-mod words;
 
 pub use blanking::{blank, kept_for_renderer};
 pub use entry::{Cause, Entry, Load, Target, What};

@@ -4,6 +4,7 @@ ghost use Rattle.window_props.specs.Ordinary.{Define, Set, Delete};
 ghost use Rattle.single_agent.specs.Access as spec;
 ghost use Rattle.single_agent.specs.Methods.{called};
 ghost use Rattle.single_agent.specs.WindowAccess.{window};
+ghost use Rattle.window_proxy.specs.Verdict as ruling;
 
 use crate::access;
 use crate::window::WindowMet;
@@ -16,7 +17,7 @@ use window_props::{Change, Key, Props, Value};
 pub fn verdict<V: View>(view: &V, asker: u32, nav: u32, op: Op, key: &Key) -> Ruling
     requires asker { asker < (V.tree view.now).docs }
     requires nav { nav < (V.tree view.now).navs }
-    ensures { result ≡ spec.verdict (window (V.tree view.now) (V.urls view.now) asker nav) op key.now }
+    ensures { result ≡ ruling.verdict (window (V.tree view.now) (V.urls view.now) asker nav) op key.now }
 {
     access::verdict(&WindowMet { view, asker, nav }, op, key)
 }

@@ -3,7 +3,7 @@ use Rattle.std.proofs.Common.{◌≡◌, ℕ, suc, ◌+◌, List, [], ◌∷◌,
 use Rattle.std.specs.Prelude.{slice_get}
 use Rattle.std.specs.List.{flat_map}
 use Rattle.tree_view.specs.declared.view.View.{Ghosts}
-use Rattle.single_agent.specs.RecordText.{record_words}
+use Rattle.trace_text.specs.RecordText.{record_words}
 use Rattle.single_agent.specs.Turns.{Turned, record_of}
 use Rattle.session_player.specs.declared.worker.Worker.{Worker}
 use Rattle.winproxy_cmd.specs.Command.{records_words}

@@ -2,14 +2,14 @@
 use Rattle.std.specs.Prelude.{◌≡◌, ◌⊎◌, ℕ, zero, suc, ◌<◌, ◌≤◌, List, [], ◌∷◌, length, Option, codes, string_bytes, IfSome, Ok, Err}
 use Rattle.std.specs.Io.KnownBytes.{Appends}
 use Rattle.ports.specs.Causes.{Rose}
-use Rattle.tree_log.specs.LogText.{◌◊◌, log_words}
+use Rattle.trace_text.specs.LogText.{◌◊◌, log_words}
 use Rattle.single_agent.specs.declared.session.Session.{Session}
 use Rattle.single_agent.specs.declared.act.Ending.{Ending}
 use Rattle.single_agent.specs.declared.act.Ending.TheVariants as ending
 use Rattle.single_agent.specs.LegalLog.{IsLegalLog}
 use Rattle.single_agent.specs.LegalRecord.{IsLegalRecord}
 use Rattle.single_agent.specs.Turns.{Turned, log_of, record_of, ArePlayed, EndsBy, StopsAtLog}
-use Rattle.single_agent.specs.RecordText.{record_words}
+use Rattle.trace_text.specs.RecordText.{record_words}
 use Rattle.session_reading.specs.declared.error.SessionError.{SessionError}
 use Rattle.session_reading.specs.PathText.{refusal_words}
 use Rattle.session_text.specs.Session.{session_of}

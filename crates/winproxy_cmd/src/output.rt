@@ -1,6 +1,6 @@
 ghost use Rattle.std.specs.Prelude.{◌≡◌, ◌++◌, OnOk, IfOk, string_bytes, reverse};
 ghost use Rattle.std.specs.List.{flat_map};
-ghost use Rattle.single_agent.specs.RecordText.{record_words};
+ghost use Rattle.trace_text.specs.RecordText.{record_words};
 ghost use Rattle.session_text.specs.Range.{IsInRange};
 ghost use Rattle.session_text.specs.Summary.{summary_words};
 ghost use Rattle.trace_text.specs.StatusText.{status_words};

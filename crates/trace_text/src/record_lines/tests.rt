@@ -174,7 +174,7 @@ fn exceptions(alloc: Global) -> Result<Rows, AllocError> {
     Ok(rows)
 }
 
-// Steps of a handler and of a document that ended, and tasks.
+// Steps of a handler, of a document that ended and of a renderer that is lost, and tasks.
 fn others(alloc: Global) -> Result<Rows, AllocError> {
     let (script, handler) = (Point::Script(1), Point::Handler(9, 1));
     let returned = Answer::Outcome(Outcome::Value(Value::Plain(Data::Undefined)));
@@ -194,7 +194,12 @@ fn others(alloc: Global) -> Result<Rows, AllocError> {
         (task(8, TaskKind::Commit, 3), "8 task commit 3"),
         (task(10, TaskKind::Fire, 9), "10 task fire 9"),
         (task(13, TaskKind::Lapse, 12), "13 task lapse 12"),
+        (
+            step(7, 2, Point::Handler(6, 0), OpName::Get, Answer::Lost),
+            "7 d2 h6.0 get -> lost"
+        ),
         (task(14, TaskKind::Gone, 13), "14 task gone 13"),
+        (Act::LostTask { at: 14 }, "14 task lost"),
     ]?;
     Ok(rows)
 }
@@ -204,7 +209,7 @@ fn others(alloc: Global) -> Result<Rows, AllocError> {
 fn the_lines_of_acts(rt: HostRuntime) -> Result<(), Fail> {
     let alloc = rt.alloc();
     let mut acts = Vec::new(alloc);
-    let mut want = String::from_str(alloc, "record 3 32\n")?;
+    let mut want = String::from_str(alloc, "record 3 34\n")?;
     for rows in [
         values(alloc)?,
         properties(alloc)?,

@@ -1,5 +1,5 @@
 ghost use Rattle.std.specs.Prelude.{◌≡◌};
-ghost use Rattle.single_agent.specs.Access as spec;
+ghost use Rattle.window_proxy.specs.Verdict as spec;
 
 use crate::access::foreign::foreign_property;
 use crate::met::Met;
@@ -52,7 +52,7 @@ fn ruled_foreign(op: Op, found: Result<Descriptor, Rule>) -> Ruling
 }
 
 /// Whether an operation is allowed, and else by which rule it is refused. It takes no memory.
-#[tactic(auto, unfolding(single_agent::specs::Access::verdict))]
+#[tactic(auto, unfolding(crate::specs::Verdict::verdict))]
 pub fn verdict<M: Met>(met: &M, op: Op, key: &Key) -> Ruling
     requires { M.fits met.now }
     ensures { result ≡ spec.verdict (M.seen met.now) op key.now }

@@ -1,5 +1,5 @@
 use Rattle.std.proofs.Common.{◌≡◌, ◌++◌, codes, ap, ◌∙◌, rules, string_bytes}
-use Rattle.single_agent.specs.RecordText.{key_words}
+use Rattle.trace_text.specs.RecordText.{key_words}
 use Rattle.plain_data.proofs.Texts.{pieces-more, item_written}
 use Rattle.trace_text.proofs.answer_text.keys_text.Goals as goal
 

@@ -1,6 +1,6 @@
 use Rattle.std.proofs.Common.{◌≡◌, length, reverse, take, string_bytes, codes, decimal}
-use Rattle.tree_log.specs.LogText.{◌◊◌}
-use Rattle.single_agent.specs.RecordText.{act_lines}
+use Rattle.trace_text.specs.LogText.{◌◊◌}
+use Rattle.trace_text.specs.RecordText.{act_lines}
 use Rattle.trace_text.proofs.record_lines.record_text.Given as goal
 
 abbrev pub invariant-loop-act : goal.invariant-loop-act

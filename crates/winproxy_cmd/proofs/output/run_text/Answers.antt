@@ -1,6 +1,6 @@
 use Rattle.std.proofs.Common.{◌≡◌, ◌++◌, ◌∙◌, ◌+◌, ap, sym, length, string_bytes, rules, append_assoc, arith}
 use Rattle.std.specs.List.{flat_map}
-use Rattle.tree_log.specs.LogText.{log_words}
+use Rattle.trace_text.specs.LogText.{log_words}
 use Rattle.trace_text.specs.StatusText.{status_words}
 use Rattle.single_agent.specs.Turns.{log_of, record_of}
 use Rattle.single_agent.proofs.Played.{legal_log, legal_record}

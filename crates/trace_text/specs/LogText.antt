@@ -8,9 +8,7 @@ use Rattle.origin_core.specs.Flags.{flags_text}
 use Rattle.tree_log.specs.declared.entry.Entry.{Entry}
 use Rattle.tree_log.specs.declared.entry.Load.{Load}
 use Rattle.tree_log.specs.declared.entry.Target.{Target}
-use Rattle.tree_log.specs.declared.entry.Target.TheVariants as target
 use Rattle.tree_log.specs.declared.entry.Cause.{Cause}
-use Rattle.tree_log.specs.declared.entry.Cause.TheVariants as cause
 use Rattle.tree_log.specs.declared.entry.What.{What}
 use Rattle.tree_log.specs.declared.entry.What.TheVariants.{Open, Frame, Drop, Name, Begin, Commit, Fragment, Opener, Post, Fire, Lapse, Closing, Gone, Lost, Sync, Hidden}
 
@@ -38,13 +36,13 @@ begin_words l =
     ◊ codes " url=" ◊ quoted l.url
 
 abbrev pub target_words : Target → List ℕ
-target_words target.Any = codes "*"
-target_words target.Never = codes "never"
-target_words (target.Origin origin) = origin_words origin
+target_words Target.Any = codes "*"
+target_words Target.Never = codes "never"
+target_words (Target.Origin origin) = origin_words origin
 
 abbrev pub cause_words : Cause → List ℕ
-cause_words cause.Inactive = codes "inactive"
-cause_words cause.Origin = codes "origin"
+cause_words Cause.Inactive = codes "inactive"
+cause_words Cause.Origin = codes "origin"
 
 -- the numbers and the origin of a window that opens
 unfoldable pub open_front : ℕ → ℕ → ℕ → ℕ → Origin → List ℕ

@@ -2,13 +2,13 @@
 use Rattle.std.specs.Prelude.{ℕ, List, [], ◌∷◌, length, codes, decimal, map, Option, Some, None}
 use Rattle.json.specs.Print.{quoted}
 use Rattle.plain_data.specs.DataText.{with_commas}
-use Rattle.tree_log.specs.LogText.{◌◊◌}
+use Rattle.trace_text.specs.LogText.{◌◊◌}
 use Rattle.window_props.specs.declared.key.Key.{Key}
 use Rattle.window_props.specs.declared.descriptor.Descriptor.{Descriptor}
 use Rattle.window_props.specs.Keys.{key_text}
 use Rattle.window_props.specs.ValueText.{value_text, truth_text, descriptor_text}
 use Rattle.single_agent.specs.declared.act.Act.{Act}
-use Rattle.single_agent.specs.declared.act.Act.TheVariants.{Step, Task}
+use Rattle.single_agent.specs.declared.act.Act.TheVariants.{Step, Task, LostTask}
 use Rattle.single_agent.specs.declared.act.Point.{Point}
 use Rattle.single_agent.specs.declared.act.Point.TheVariants.{Script, Handler}
 use Rattle.single_agent.specs.declared.step.OpName.{OpName}
@@ -96,6 +96,7 @@ unfoldable pub act_line : Act → List ℕ
 act_line (Step at doc point op answer) =
     decimal at ◊ codes " d" ◊ decimal doc ◊ codes " " ◊ point_words point ◊ codes " " ◊ op_words op ◊ codes " -> " ◊ answer_words answer ◊ codes "\n"
 act_line (Task at kind place) = decimal at ◊ codes " task " ◊ kind_words kind ◊ codes " " ◊ decimal place ◊ codes "\n"
+act_line (LostTask at) = decimal at ◊ codes " task lost\n"
 
 -- the lines of acts, which stand newest first
 abbrev pub act_lines : List Act → List ℕ

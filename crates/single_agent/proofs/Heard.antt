@@ -1,0 +1,80 @@
+-- What a renderer was told is no less than its acts heard, and no more than the log.
+use Rattle.std.proofs.Common.{◌≡◌, ℕ, ◌+◌, ◌≤◌, List, [], ◌∷◌, length, Option, Some, None, Bool, true, false, refl, sym, ap, subst, arith, inl, inr, length-append}
+use Rattle.std.specs.Prelude.{◌&&◌, not, if◌then◌else◌}
+use Rattle.std.proofs.lemmas.Bool.Decides.{eqb_tells}
+use Rattle.tree_log.specs.declared.entry.Entry.{Entry}
+use Rattle.single_agent.specs.declared.session.Session.{Session}
+use Rattle.single_agent.specs.declared.act.Act.{Act}
+use Rattle.single_agent.specs.declared.act.Move.{Move}
+use Rattle.single_agent.specs.declared.act.Move.TheVariants.{Answers, Asks, Takes, Stays}
+use Rattle.single_agent.specs.Decision.{Rules, rules_of, exchange}
+use Rattle.single_agent.specs.NextAct.{length_of, newest_length, next_move, answer_of, lost_act, MovesTo}
+use Rattle.single_agent.specs.Turns.{Turned, log_of, with_act, record_of, is_exchange, loses_next, told_of, Plays, ArePlayed}
+use Rattle.single_agent.proofs.Legal.{acted_length, lost_length}
+
+-- how much was heard, between what acts heard and what there is
+pub record IsBetween (low heard high : ℕ) : Type 0 where
+  pub low_is : low ≤ heard
+  pub high_is : heard ≤ high
+
+-- what is heard after a move: the log with its entries, where it made an exchange
+abbrev pub heard_by : Move → ℕ → ℕ → ℕ
+heard_by m whole told = if is_exchange m then whole else told
+
+moved_between : (rules : Rules) (r : ℕ) (log : List Entry) (acts : List Act) (m : Move) (act : Act) (own : List Entry) (told : ℕ) → MovesTo rules r log acts m act own → IsBetween (newest_length acts) told (length log)
+    → IsBetween (length_of act) (heard_by m (length own + length log) told) (length own + length log)
+moved_between rules r log acts (Answers doc point op o) act own told h b = let e = ap length_of h.0 in record { low_is = omega (arith, b.low_is); high_is = omega (arith, b.high_is) }
+moved_between rules r log acts (Asks doc point op q) act own told h b =
+    let e = acted_length (length own + length log) doc point op (answer_of op (exchange rules log r q).outcome) act h.1 in record { low_is = omega arith; high_is = omega arith }
+moved_between rules r log acts Takes act own told h b = let e = ap length_of h.3 in let l = ap length h.2 in record { low_is = omega arith; high_is = omega arith }
+moved_between rules r log acts Stays act own told h b = absurd h
+
+still_between : (acts : List Act) (m : Move) (own log : List Entry) (told : ℕ) → IsBetween (newest_length acts) told (length log) → IsBetween (newest_length acts) (heard_by m (length own + length log) told) (length own + length log)
+still_between acts m own log told b = either (is_exchange m) where
+  either : (x : Bool) → IsBetween (newest_length acts) (if x then length own + length log else told) (length own + length log)
+  either true = record { low_is = omega (arith, b.low_is, b.high_is); high_is = omega arith }
+  either false = record { low_is = b.low_is; high_is = omega (arith, b.high_is) }
+
+lost_between : (acts : List Act) (m : Move) (act : Option Act) (own log : List Entry) (told : ℕ) → act ≡ lost_act (newest_length acts) told m → IsBetween (newest_length acts) told (length log)
+    → IsBetween (newest_length (with_act act acts)) told (length own + length log)
+lost_between acts m None own log told h b = record { low_is = b.low_is; high_is = omega (arith, b.high_is) }
+lost_between acts m (Some act) own log told h b =
+    let lengths = lost_length (newest_length acts) told m act (sym h) b.low_is in record { low_is = lengths.1; high_is = omega (arith, b.high_is) }
+
+-- a turn of the renderer itself
+own_between : (lost : Bool) (s : Session) (r : ℕ) (log : List Entry) (acts : List Act) (told : ℕ) (act : Option Act) (own : List Entry) → Plays lost s r log acts told act own → IsBetween (newest_length acts) told (length log)
+    → IsBetween (newest_length (with_act act acts)) (if is_exchange (next_move s log acts) && not lost then length own + length log else told) (length own + length log)
+own_between true s r log acts told act own h b =
+    subst (λ (x : Bool). IsBetween (newest_length (with_act act acts)) (if x then length own + length log else told) (length own + length log)) (sym (and_false (is_exchange (next_move s log acts))))
+    (lost_between acts (next_move s log acts) act own log told h.0 b)
+  where
+    and_false : (x : Bool) → (x && false) ≡ false
+    and_false true = refl
+    and_false false = refl
+own_between false s r log acts told None own h b =
+    subst (λ (x : Bool). IsBetween (newest_length acts) (if x then length own + length log else told) (length own + length log)) (sym (and_true (is_exchange (next_move s log acts))))
+    (still_between acts (next_move s log acts) own log told b)
+  where
+    and_true : (x : Bool) → (x && true) ≡ x
+    and_true true = refl
+    and_true false = refl
+own_between false s r log acts told (Some act) own h b =
+    subst (λ (x : Bool). IsBetween (length_of act) (if x then length own + length log else told) (length own + length log)) (sym (and_true (is_exchange (next_move s log acts))))
+    (moved_between (rules_of s) r log acts (next_move s log acts) act own told h.0 b)
+  where
+    and_true : (x : Bool) → (x && true) ≡ x
+    and_true true = refl
+    and_true false = refl
+
+-- what renderer r was told lies between the length of its newest act and that of the log
+pub told_between : (s : Session) (r : ℕ) (turns : List Turned) → ArePlayed s turns → IsBetween (newest_length (record_of r turns)) (told_of s r turns) (length (log_of s turns))
+unfolding log_of record_of told_of
+told_between s r [] h = record { low_is = omega arith; high_is = omega arith }
+told_between s r (t ∷ older) h = let whole = length-append t.own (log_of s older) in elim (eqb_tells t.renderer r) [
+  | inl p ↦ rw p.0 (let b = told_between s r older h.1 in
+      let mine = subst (λ k. IsBetween (newest_length (with_act t.act (record_of k older)))
+      (if is_exchange (next_move s (log_of s older) (record_of k older)) && not (loses_next s older k) then length t.own + length (log_of s older) else told_of s k older) (length t.own + length (log_of s older))) p.1
+      (own_between (loses_next s older t.renderer) s t.renderer (log_of s older) (record_of t.renderer older) (told_of s t.renderer older) t.act t.own h.0.plays (subst (λ k. IsBetween (newest_length (record_of k older)) (told_of s k older) (length (log_of s older))) (sym p.1) b)) in
+      subst (λ n. IsBetween (newest_length (with_act t.act (record_of r older))) (if is_exchange (next_move s (log_of s older) (record_of r older)) && not (loses_next s older r) then n else told_of s r older) n) (sym whole) mine)
+  | inr p ↦ rw p.0 (let b = told_between s r older h.1 in record { low_is = b.low_is; high_is = omega (arith, b.high_is) })
+]
