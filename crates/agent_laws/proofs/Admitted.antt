@@ -1,59 +1,92 @@
 -- The entries of every exchange can follow the log.
 use Rattle.std.proofs.Common.{◌≡◌, ℕ, ◌+◌, ◌<◌, ◌≤◌, ◌^◌, List, [], ◌∷◌, ◌++◌, length, Option, Some, None, Bool, true, false, refl, sym, subst, ◌∙◌, arith, inl, inr}
-use Rattle.std.specs.Prelude.{◌⊎◌, if◌then◌else◌}
+use Rattle.std.specs.Prelude.{◌⊎◌, ◌&&◌, ◌==◌, not, if◌then◌else◌}
 use Rattle.tree_log.specs.declared.entry.Entry.{Entry}
 use Rattle.tree_log.specs.declared.entry.Load.{Load}
+use Rattle.tree_log.specs.declared.entry.Target.{Target}
+use Rattle.tree_log.specs.declared.entry.Cause.{Cause}
+use Rattle.tree_log.specs.declared.entry.Cause.TheVariants as causes
 use Rattle.tree_log.specs.declared.entry.What.{What}
-use Rattle.tree_log.specs.declared.entry.What.TheVariants.{Open, Frame, Begin, Commit}
+use Rattle.tree_log.specs.declared.entry.What.TheVariants.{Open, Frame, Begin, Commit, Post, Fire, Lapse, Closing, Gone, Lost}
 use Rattle.tree_log.specs.Facts.{or_else}
-use Rattle.tree_log.specs.Tree.{Tree, tree_of}
-use Rattle.tree_log.specs.Admits.{AreAdmitted}
+use Rattle.tree_log.specs.Tree.{Tree, tree_of, home_of, origin_of, is_active, is_discarded}
+use Rattle.tree_log.specs.Admits.{admits, AreAdmitted}
+use Rattle.tree_log.proofs.Admitted.{few_of}
 use Rattle.single_agent.specs.declared.request.Request.{Request}
 use Rattle.single_agent.specs.declared.request.Request.TheVariants as ask
 use Rattle.single_agent.specs.declared.session.Session.{Session}
 use Rattle.single_agent.specs.Session.{starts_of, started, start_entry}
-use Rattle.single_agent.specs.NextTask.{load_waits, load_task, task_of, first_task, next_task, task_entry}
+use Rattle.single_agent.specs.NextTask.{load_waits, load_task, is_for, delivery, is_over, task_of, first_task, next_task, task_entry}
 use Rattle.single_agent.proofs.Admitted.{task_admitted, start_admitted, started_admitted}
-use Rattle.single_agent.specs.LegalLog.{IsLegalLog, Started, Exchanged}
+use Rattle.single_agent.specs.LegalLog.{lost_entry, IsLegalLog, Started, Exchanged, Gave_up}
 use Rattle.single_agent.specs.Decision.{Rules, rules_of, Decision, exchange, asker_of, task_decision}
 use Rattle.agent_laws.specs.Actors.{is_next}
 use Rattle.agent_laws.proofs.Exchanges.{only_next, decided_or_none}
 use Rattle.agent_laws.proofs.Well.{admitted_well}
-use Rattle.agent_laws.proofs.Steps.{is_maker, IsFit, Quietly, Starts, AreSteps, Steps, asking_of, decide-steps}
+use Rattle.agent_laws.proofs.Steps.{is_maker, IsFit, Quietly, Starts, AreSteps, Steps, lt_true, asking_of, decide-steps}
 
--- A TASK
+-- TASKS
 
 pub either_is : (a b : Option What) (what : What) → or_else a b ≡ Some what → (a ≡ Some what) ⊎ (b ≡ Some what)
 either_is (Some w) b what h = inl h
 either_is None b what h = inr h
 
--- a task makes no navigable and no document
-load_is_quiet : (t : Tree) (r place nav : ℕ) (load : Option Load) (what : What) → load_task t r place nav load ≡ Some what → is_maker what ≡ false
-unfolding is_maker
-load_is_quiet t r place nav None what h = absurd cc
-load_is_quiet t r place nav (Some load) what h = commit_is_quiet (load_waits t r nav load) h
+-- something that waits where a test passes
+pub tested_is : (b : Bool) (w what : What) → (if b then Some w else None) ≡ Some what → (b ≡ true) × (w ≡ what)
+tested_is false w what h = absurd cc
+tested_is true w what h = (refl, cc)
+
+-- what a task does
+pub data IsTask : What → Type 0 where
+  Commits : (nav doc begin : ℕ) → IsTask (Commit nav doc begin)
+  Fires : (doc post : ℕ) → IsTask (Fire doc post)
+  Lapses : (doc post : ℕ) (cause : Cause) → IsTask (Lapse doc post cause)
+  Closes : (nav : ℕ) → IsTask (Gone nav)
+
+load_task_is : (t : Tree) (r place nav : ℕ) (load : Option Load) (what : What) → load_task t r place nav load ≡ Some what → IsTask what
+load_task_is t r place nav None what h = absurd cc
+load_task_is t r place nav (Some load) what h = subst IsTask (tested_is (load_waits t r nav load) (Commit nav load.doc place) what h).1 (Commits nav load.doc place)
+
+pub delivery_is : (t : Tree) (place to : ℕ) (target : Target) → IsTask (delivery t place to target)
+delivery_is t place to target = by_tests (not (is_active t to)) (is_for target (origin_of t to))
   where
-    commit_is_quiet : (b : Bool) → (if b then Some (Commit nav load.doc place) else None) ≡ Some what → is_maker what ≡ false
-    commit_is_quiet false e = absurd cc
-    commit_is_quiet true e = let same : Commit nav load.doc place ≡ what = cc in subst (λ (w : What). is_maker w ≡ false) same refl
+    by_tests : (a b : Bool) → IsTask (if a then Lapse to place causes.Inactive else if b then Fire to place else Lapse to place causes.Origin)
+    by_tests true b = Lapses to place causes.Inactive
+    by_tests false true = Fires to place
+    by_tests false false = Lapses to place causes.Origin
 
-task_of_is_quiet : (t : Tree) (r place : ℕ) (w what : What) → task_of t r place w ≡ Some what → is_maker what ≡ false
-task_of_is_quiet t r place (Open nav _ _ _ _ _ _ _ _ load) what h = load_is_quiet t r place nav load what h
-task_of_is_quiet t r place (Frame nav _ _ _ _ _ load) what h = load_is_quiet t r place nav load what h
-task_of_is_quiet t r place (Begin nav load) what h = load_is_quiet t r place nav (Some load) what h
-task_of_is_quiet t r place _ what h = absurd cc
+task_of_is : (t : Tree) (over : ℕ → ℕ → Bool) (r place : ℕ) (w what : What) → task_of t over r place w ≡ Some what → IsTask what
+task_of_is t over r place (Open nav _ _ _ _ _ _ _ _ load) what h = load_task_is t r place nav load what h
+task_of_is t over r place (Frame nav _ _ _ _ _ load) what h = load_task_is t r place nav load what h
+task_of_is t over r place (Begin nav load) what h = load_task_is t r place nav (Some load) what h
+task_of_is t over r place (Post to _ _ target _) what h =
+    subst IsTask (tested_is (home_of t to == r && not (over to place)) (delivery t place to target) what h).1 (delivery_is t place to target)
+task_of_is t over r place (Closing nav) what h = subst IsTask (tested_is (home_of t (t.nav nav).active == r && not (is_discarded t nav)) (Gone nav) what h).1 (Closes nav)
+task_of_is t over r place _ what h = absurd cc
 
-first_is_quiet : (t : Tree) (r : ℕ) (log : List Entry) (what : What) → first_task t r log ≡ Some what → is_maker what ≡ false
-first_is_quiet t r [] what h = absurd cc
-first_is_quiet t r (e ∷ older) what h =
-    elim (either_is (first_task t r older) (task_of t r (length older) e.what) what h) [
-      | inl p ↦ first_is_quiet t r older what p
-      | inr p ↦ task_of_is_quiet t r (length older) e.what what p
+first_is_task : (t : Tree) (over : ℕ → ℕ → Bool) (r : ℕ) (log : List Entry) (what : What) → first_task t over r log ≡ Some what → IsTask what
+first_is_task t over r [] what h = absurd cc
+first_is_task t over r (e ∷ older) what h =
+    elim (either_is (first_task t over r older) (task_of t over r (length older) e.what) what h) [
+      | inl p ↦ first_is_task t over r older what p
+      | inr p ↦ task_of_is t over r (length older) e.what what p
     ]
 
-task_is_quiet : (log : List Entry) (r : ℕ) (what : What) → next_task log r ≡ Some what → is_maker what ≡ false
+-- a next task commits a document, fires or lapses a message, or closes a window
+pub next_is_task : (log : List Entry) (r : ℕ) (what : What) → next_task log r ≡ Some what → IsTask what
 unfolding next_task
-task_is_quiet log r what h = first_is_quiet (tree_of log) r log what h
+next_is_task log r what h = first_is_task (tree_of log) (is_over log) r log what h
+
+-- so it makes no navigable and no document
+quiet_task : (what : What) → IsTask what → is_maker what ≡ false
+unfolding is_maker
+quiet_task what (Commits nav doc begin) = refl
+quiet_task what (Fires doc post) = refl
+quiet_task what (Lapses doc post cause) = refl
+quiet_task what (Closes nav) = refl
+
+task_is_quiet : (log : List Entry) (r : ℕ) (what : What) → next_task log r ≡ Some what → is_maker what ≡ false
+task_is_quiet log r what h = quiet_task what (next_is_task log r what h)
 
 -- THE START WINDOWS
 
@@ -68,6 +101,17 @@ started_length rules log (url ∷ urls) = started_length rules (start_entry rule
 starts_admitted : (s : Session) → length (starts_of s) < 2 ^ 30 → AreAdmitted (starts_of s)
 unfolding starts_of
 starts_admitted s few = started_admitted (rules_of s) [] s.start tt (let e = started_length (rules_of s) [] s.start in omega arith)
+
+-- LOSSES
+
+lost_admitted : (log : List Entry) (r : ℕ) → length log < 2 ^ 30 → admits (tree_of log) (lost_entry r) ≡ true
+unfolding admits
+lost_admitted log r short = let len = (few_of log).len in rw (lt_true (tree_of log).len 4294967295 (omega arith)) refl
+
+-- the loss of a renderer is one of the kinds of entries
+pub lost_fits : (rules : Rules) (log : List Entry) (r : ℕ) → length log < 2 ^ 30 → IsFit rules (tree_of log) (lost_entry r)
+unfolding is_maker
+lost_fits rules log r short = (Quietly None None (Lost r) refl, lost_admitted log r short)
 
 -- EXCHANGES
 
@@ -116,3 +160,6 @@ legal_admitted s log Started few = starts_admitted s few
 legal_admitted s log (Exchanged older r q legal there) few =
     let short : length older < 2 ^ 30 = omega (arith, longer (exchange (rules_of s) older r q).entries older) in
     exchange_admitted (rules_of s) older r q (legal_admitted s older legal short) short
+legal_admitted s log (Gave_up older r legal there) few =
+    let short : length older < 2 ^ 30 = omega arith in
+    ((lost_fits (rules_of s) older r short).1, legal_admitted s older legal short)

@@ -1,16 +1,22 @@
 -- What is decided on a blanked log.
-use Rattle.std.proofs.Common.{◌≡◌, ℕ, List, [], ◌∷◌, ◌++◌, length, Option, Some, None, Bool, true, false, refl, sym, not, if◌then◌else◌}
+use Rattle.std.proofs.Common.{◌≡◌, ℕ, List, [], ◌∷◌, ◌++◌, length, Option, Some, None, Bool, true, false, refl, sym, ap, ◌∙◌, not, ◌&&◌, if◌then◌else◌, inl, inr}
+use Rattle.std.specs.Prelude.{◌==◌}
+use Rattle.std.proofs.lemmas.Bool.{false≢true}
+use Rattle.std.proofs.lemmas.Bool.Decides.{eqb_tells}
+use Rattle.plain_data.specs.declared.data.Data.{Data}
+use Rattle.origin_core.specs.declared.origin.Origin.{Origin}
 use Rattle.tree_log.specs.declared.entry.Entry.{Entry}
+use Rattle.tree_log.specs.declared.entry.Target.{Target}
 use Rattle.tree_log.specs.declared.entry.What.{What}
 use Rattle.tree_log.specs.declared.entry.What.TheVariants.{Sync, Open, Frame, Begin, Post, Fire, Lapse}
-use Rattle.tree_log.specs.Tree.{Tree, tree_of, nav_of, is_active, is}
+use Rattle.tree_log.specs.Tree.{Tree, tree_of, nav_of, home_of, is_active, is}
 use Rattle.tree_log.specs.Urls.{url_of}
-use Rattle.tree_log.specs.Blanking.{blank, blanked, hidden}
-use Rattle.tree_log.proofs.BlankLaws.{tree_of-blanked, length-blanked}
+use Rattle.tree_log.specs.Blanking.{blank, blanked, hidden, is_homed}
+use Rattle.tree_log.proofs.BlankLaws.{said, tree_of-blanked, length-blanked}
 use Rattle.single_agent.specs.declared.request.Request.{Request}
 use Rattle.single_agent.specs.declared.request.Request.TheVariants as ask
 use Rattle.single_agent.specs.declared.request.ReplyOutcome.TheVariants as reply
-use Rattle.single_agent.specs.NextTask.{next_task, first_task, task_of}
+use Rattle.single_agent.specs.NextTask.{next_task, first_task, task_of, ends, is_over}
 use Rattle.single_agent.specs.Navigation.{may_navigate, Choice, Existing, New, Nothing, choice}
 use Rattle.single_agent.specs.Decision.{Rules, Decision, decide, exchange, end_of, is_fragment, asker_of, by, one, navigation, opener_entry, made_or_null, open_chosen, is_live, home_if_active}
 use Rattle.agent_laws.specs.Actors.{is_next}
@@ -63,26 +69,67 @@ outcome-blanked rules kept log r q other =
 
 -- TASKS
 
-task_if : (t : Tree) (r place : ℕ) (b : Bool) (by actor : Option ℕ) (w : What) → task_of t r place w ≡ None → task_of t r place (if b then hidden else record { by = by; actor = actor; what = w }).what ≡ task_of t r place w
-task_if t r place true by actor w none = sym none
-task_if t r place false by actor w none = refl
+-- an end of a message for a kept document is shown
+end_or_hidden : (kept : ℕ → Bool) (to place doc : ℕ) (x : Bool) (by actor : Option ℕ) (w : What) → kept to ≡ true → ends to place w ≡ (doc == to && x) → (b : Bool) → kept doc ≡ b
+    → ends to place (if not b then hidden else record { by = by; actor = actor; what = w }).what ≡ ends to place w
+end_or_hidden kept to place doc x by actor w h is true e = refl
+end_or_hidden kept to place doc x by actor w h is false e =
+    elim (eqb_tells doc to) as (λ _. false ≡ ends to place w) [
+      | inl p ↦ absurd (false≢true (sym e ∙ ap kept p.1 ∙ h))
+      | inr p ↦ sym (is ∙ rw (p.0) refl)
+    ]
 
-task_of-blank : (kept : ℕ → Bool) (t : Tree) (r place : ℕ) (by actor : Option ℕ) (w : What) → task_of t r place (blank kept (record { by = by; actor = actor; what = w })).what ≡ task_of t r place w
-task_of-blank kept t r place by actor (Open _ _ _ _ _ _ _ _ _ None) = refl
-task_of-blank kept t r place by actor (Open _ _ _ _ _ _ _ _ _ (Some load)) = refl
-task_of-blank kept t r place by actor (Frame _ _ _ _ _ _ None) = refl
-task_of-blank kept t r place by actor (Frame _ _ _ _ _ _ (Some load)) = refl
-task_of-blank kept t r place by actor (Begin _ load) = refl
-task_of-blank kept t r place by actor (Post to from origin target body) = task_if t r place (not (kept to)) by actor (Post to from origin target body) refl
-task_of-blank kept t r place by actor (Fire doc post) = task_if t r place (not (kept doc)) by actor (Fire doc post) refl
-task_of-blank kept t r place by actor (Lapse doc post cause) = task_if t r place (not (kept doc)) by actor (Lapse doc post cause) refl
-task_of-blank kept t r place by actor w = refl
+ends-blank : (kept : ℕ → Bool) (to place : ℕ) → kept to ≡ true → (by actor : Option ℕ) (w : What) → ends to place (blank kept (record { by = by; actor = actor; what = w })).what ≡ ends to place w
+ends-blank kept to place h by actor (Post a from origin target body) = said (ends to place) (not (kept a)) by actor (Post a from origin target body) refl
+ends-blank kept to place h by actor (Fire doc post) = end_or_hidden kept to place doc (post == place) by actor (Fire doc post) h refl (kept doc) refl
+ends-blank kept to place h by actor (Lapse doc post cause) = end_or_hidden kept to place doc (post == place) by actor (Lapse doc post cause) h refl (kept doc) refl
+ends-blank kept to place h by actor w = refl
 
-first_task-blanked : (kept : ℕ → Bool) (t : Tree) (r : ℕ) (log : List Entry) → first_task t r (blanked kept log) ≡ first_task t r log
-first_task-blanked kept t r [] = refl
-first_task-blanked kept t r (e ∷ older) = rw (first_task-blanked kept t r older, length-blanked kept older, task_of-blank kept t r (length older) e.by e.actor e.what) refl
+is_over-blanked : (kept : ℕ → Bool) (log : List Entry) (to place : ℕ) → kept to ≡ true → is_over (blanked kept log) to place ≡ is_over log to place
+is_over-blanked kept [] to place h = refl
+is_over-blanked kept (e ∷ older) to place h = rw (ends-blank kept to place h e.by e.actor e.what, is_over-blanked kept older to place h) refl
 
--- so far a renderer's next task is a load, which is the same whoever is kept
-pub next_task-blanked : (kept : ℕ → Bool) (log : List Entry) (r : ℕ) → next_task (blanked kept log) r ≡ next_task log r
+-- all documents homed at r are kept
+abbrev KeepsAll : (ℕ → Bool) → Tree → ℕ → Type 0
+KeepsAll kept t r = (d : ℕ) → is_homed t r d ≡ true → kept d ≡ true
+
+-- of messages for kept documents the same ones are over
+abbrev AreOverAlike : (ℕ → Bool) → (ℕ → ℕ → Bool) → (ℕ → ℕ → Bool) → Type 0
+AreOverAlike kept over other = (to place : ℕ) → kept to ≡ true → over to place ≡ other to place
+
+abbrev no_task : Option What
+no_task = None
+
+message-blank : (kept : ℕ → Bool) (t : Tree) (over other : ℕ → ℕ → Bool) (r place : ℕ) → KeepsAll kept t r → AreOverAlike kept over other → (by actor : Option ℕ) (to from : ℕ) (origin : Origin) (target : Target) (body : Data)
+    → (b : Bool) → kept to ≡ b
+    → task_of t over r place (if not b then hidden else record { by = by; actor = actor; what = Post to from origin target body }).what ≡ task_of t other r place (Post to from origin target body)
+message-blank kept t over other r place homed same by actor to from origin target body true e = rw (same to place e) refl
+message-blank kept t over other r place homed same by actor to from origin target body false e =
+    elim (eqb_tells (home_of t to) r) as (λ _. no_task ≡ task_of t other r place (Post to from origin target body)) [
+      | inl p ↦ absurd (false≢true (sym e ∙ homed to (p.0)))
+      | inr p ↦ rw (p.0) refl
+    ]
+
+task_of-blank : (kept : ℕ → Bool) (t : Tree) (over other : ℕ → ℕ → Bool) (r place : ℕ) → KeepsAll kept t r → AreOverAlike kept over other → (by actor : Option ℕ) (w : What)
+    → task_of t over r place (blank kept (record { by = by; actor = actor; what = w })).what ≡ task_of t other r place w
+task_of-blank kept t over other r place homed same by actor (Open _ _ _ _ _ _ _ _ _ None) = refl
+task_of-blank kept t over other r place homed same by actor (Open _ _ _ _ _ _ _ _ _ (Some load)) = refl
+task_of-blank kept t over other r place homed same by actor (Frame _ _ _ _ _ _ None) = refl
+task_of-blank kept t over other r place homed same by actor (Frame _ _ _ _ _ _ (Some load)) = refl
+task_of-blank kept t over other r place homed same by actor (Begin _ load) = refl
+task_of-blank kept t over other r place homed same by actor (Post to from origin target body) = message-blank kept t over other r place homed same by actor to from origin target body (kept to) refl
+task_of-blank kept t over other r place homed same by actor (Fire doc post) = said (task_of t over r place) (not (kept doc)) by actor (Fire doc post) refl
+task_of-blank kept t over other r place homed same by actor (Lapse doc post cause) = said (task_of t over r place) (not (kept doc)) by actor (Lapse doc post cause) refl
+task_of-blank kept t over other r place homed same by actor w = refl
+
+first_task-blanked : (kept : ℕ → Bool) (t : Tree) (over other : ℕ → ℕ → Bool) (r : ℕ) → KeepsAll kept t r → AreOverAlike kept over other → (log : List Entry)
+    → first_task t over r (blanked kept log) ≡ first_task t other r log
+first_task-blanked kept t over other r homed same [] = refl
+first_task-blanked kept t over other r homed same (e ∷ older) =
+    rw (first_task-blanked kept t over other r homed same older, length-blanked kept older, task_of-blank kept t over other r (length older) homed same e.by e.actor e.what) refl
+
+-- a renderer's next task is the same where all documents homed there are kept
+pub next_task-blanked : (kept : ℕ → Bool) (log : List Entry) (r : ℕ) → ((d : ℕ) → is_homed (tree_of log) r d ≡ true → kept d ≡ true) → next_task (blanked kept log) r ≡ next_task log r
 unfolding next_task
-next_task-blanked kept log r = rw (tree_of-blanked kept log) (first_task-blanked kept (tree_of log) r log)
+next_task-blanked kept log r homed =
+    rw (tree_of-blanked kept log) (first_task-blanked kept (tree_of log) (is_over (blanked kept log)) (is_over log) r homed (λ to place h. is_over-blanked kept log to place h) log)

@@ -1,21 +1,23 @@
 -- Documents that are committed were loaded.
 use Rattle.std.proofs.Common.{◌≡◌, ℕ, ◌+◌, ◌<◌, List, [], ◌∷◌, length, Option, Some, None, Bool, true, false, ap, sym, subst, ◌∙◌, if◌then◌else◌, arith, inl, inr}
-use Rattle.std.specs.Prelude.{nat_le, ◌==◌}
+use Rattle.std.specs.Prelude.{nat_le, ◌==◌, ◌&&◌, not}
 use Rattle.std.proofs.lemmas.Bool.{false≢true}
 use Rattle.tree_log.specs.declared.entry.Entry.{Entry}
 use Rattle.tree_log.specs.declared.entry.Load.{Load}
 use Rattle.tree_log.specs.declared.entry.What.{What}
-use Rattle.tree_log.specs.declared.entry.What.TheVariants.{Open, Frame, Begin, Commit}
+use Rattle.tree_log.specs.declared.entry.What.TheVariants.{Open, Frame, Begin, Commit, Post, Fire, Lapse, Closing, Gone}
+use Rattle.tree_log.specs.declared.entry.Target.{Target}
+use Rattle.tree_log.specs.declared.entry.Cause.TheVariants as causes
 use Rattle.tree_log.specs.Log.{entry_at, prefix}
 use Rattle.tree_log.specs.Facts.{Birth}
-use Rattle.tree_log.specs.Tree.{Tree, tree_of, after, tree_of_step}
+use Rattle.tree_log.specs.Tree.{Tree, tree_of, after, tree_of_step, home_of, origin_of, is_active, is_discarded}
 use Rattle.tree_log.specs.Admits.{admits, AreAdmitted}
 use Rattle.tree_log.proofs.Admitted.{born_stays, what_admitted}
-use Rattle.single_agent.specs.NextTask.{load_waits, load_task, task_of, first_task, next_task}
+use Rattle.single_agent.specs.NextTask.{load_waits, load_task, is_for, delivery, is_over, task_of, first_task, next_task}
 use Rattle.agent_laws.specs.Homes.{is_loaded}
 use Rattle.agent_laws.proofs.Entries.{entry, at_self, at_next, open_next, frame_next, begin_next}
 use Rattle.agent_laws.proofs.Well.{more_docs}
-use Rattle.agent_laws.proofs.Admitted.{either_is}
+use Rattle.agent_laws.proofs.Admitted.{either_is, tested_is}
 
 -- document d is there and was loaded
 pub record WasLoaded (t : Tree) (d : ℕ) : Type 0 where
@@ -27,11 +29,11 @@ loaded_later t e d h l = record { there = omega (arith, l.there, more_docs t e);
 
 -- LOADS
 
-abbrev IsLoadLoaded : Tree → Option Load → Type 0
+abbrev pub IsLoadLoaded : Tree → Option Load → Type 0
 IsLoadLoaded t None = Unit {0}
 IsLoadLoaded t (Some load) = WasLoaded t load.doc
 
-abbrev HasLoaded : Tree → What → Type 0
+abbrev pub HasLoaded : Tree → What → Type 0
 HasLoaded t (Open _ _ _ _ _ _ _ _ _ load) = IsLoadLoaded t load
 HasLoaded t (Frame _ _ _ _ _ _ load) = IsLoadLoaded t load
 HasLoaded t (Begin _ load) = WasLoaded t load.doc
@@ -56,7 +58,7 @@ all_later t e [] h l = tt
 all_later t e (x ∷ log) h l = (has_later t e x.what h l.0, all_later t e log h l.1)
 
 -- the load of an entry that is there now
-loads_now : (t : Tree) (by actor : Option ℕ) (w : What) → admits t (entry by actor w) ≡ true → HasLoaded (after t (entry by actor w)) w
+pub loads_now : (t : Tree) (by actor : Option ℕ) (w : What) → admits t (entry by actor w) ≡ true → HasLoaded (after t (entry by actor w)) w
 unfolding after
 loads_now t by actor (Open nav doc group home origin name opener flags navigator None) h = tt
 loads_now t by actor (Open nav doc group home origin name opener flags navigator (Some load)) h =
@@ -104,29 +106,36 @@ commits_later t e (x ∷ log) h l = (commit_later t e x.what h l.0, commits_late
 -- a next task commits a document that was loaded
 load_task_loaded : (t : Tree) (r place nav : ℕ) (load : Option Load) (w : What) → IsLoadLoaded t load → load_task t r place nav load ≡ Some w → IsCommitLoaded t w
 load_task_loaded t r place nav None w l h = absurd cc
-load_task_loaded t r place nav (Some load) w l h = by_test (load_waits t r nav load) h
+load_task_loaded t r place nav (Some load) w l h = subst (IsCommitLoaded t) (tested_is (load_waits t r nav load) (Commit nav load.doc place) w h).1 l
+
+delivery_loaded : (t : Tree) (place to : ℕ) (target : Target) → IsCommitLoaded t (delivery t place to target)
+delivery_loaded t place to target = by_tests (not (is_active t to)) (is_for target (origin_of t to))
   where
-    by_test : (b : Bool) → (if b then Some (Commit nav load.doc place) else None) ≡ Some w → IsCommitLoaded t w
-    by_test false e = absurd cc
-    by_test true e = let same : Commit nav load.doc place ≡ w = cc in subst (IsCommitLoaded t) same l
+    by_tests : (a b : Bool) → IsCommitLoaded t (if a then Lapse to place causes.Inactive else if b then Fire to place else Lapse to place causes.Origin)
+    by_tests true b = tt
+    by_tests false true = tt
+    by_tests false false = tt
 
-task_of_loaded : (t : Tree) (r place : ℕ) (v w : What) → HasLoaded t v → task_of t r place v ≡ Some w → IsCommitLoaded t w
-task_of_loaded t r place (Open nav _ _ _ _ _ _ _ _ load) w l h = load_task_loaded t r place nav load w l h
-task_of_loaded t r place (Frame nav _ _ _ _ _ load) w l h = load_task_loaded t r place nav load w l h
-task_of_loaded t r place (Begin nav load) w l h = load_task_loaded t r place nav (Some load) w l h
-task_of_loaded t r place v w l h = absurd cc
+task_of_loaded : (t : Tree) (over : ℕ → ℕ → Bool) (r place : ℕ) (v w : What) → HasLoaded t v → task_of t over r place v ≡ Some w → IsCommitLoaded t w
+task_of_loaded t over r place (Open nav _ _ _ _ _ _ _ _ load) w l h = load_task_loaded t r place nav load w l h
+task_of_loaded t over r place (Frame nav _ _ _ _ _ load) w l h = load_task_loaded t r place nav load w l h
+task_of_loaded t over r place (Begin nav load) w l h = load_task_loaded t r place nav (Some load) w l h
+task_of_loaded t over r place (Post to _ _ target _) w l h =
+    subst (IsCommitLoaded t) (tested_is (home_of t to == r && not (over to place)) (delivery t place to target) w h).1 (delivery_loaded t place to target)
+task_of_loaded t over r place (Closing nav) w l h = subst (IsCommitLoaded t) (tested_is (home_of t (t.nav nav).active == r && not (is_discarded t nav)) (Gone nav) w h).1 tt
+task_of_loaded t over r place v w l h = absurd cc
 
-first_task_loaded : (t : Tree) (r : ℕ) (log : List Entry) (w : What) → AllLoaded t log → first_task t r log ≡ Some w → IsCommitLoaded t w
-first_task_loaded t r [] w l h = absurd cc
-first_task_loaded t r (e ∷ older) w l h =
-    elim (either_is (first_task t r older) (task_of t r (length older) e.what) w h) as (λ _. IsCommitLoaded t w) [
-      | inl p ↦ first_task_loaded t r older w l.1 p
-      | inr p ↦ task_of_loaded t r (length older) e.what w l.0 p
+first_task_loaded : (t : Tree) (over : ℕ → ℕ → Bool) (r : ℕ) (log : List Entry) (w : What) → AllLoaded t log → first_task t over r log ≡ Some w → IsCommitLoaded t w
+first_task_loaded t over r [] w l h = absurd cc
+first_task_loaded t over r (e ∷ older) w l h =
+    elim (either_is (first_task t over r older) (task_of t over r (length older) e.what) w h) as (λ _. IsCommitLoaded t w) [
+      | inl p ↦ first_task_loaded t over r older w l.1 p
+      | inr p ↦ task_of_loaded t over r (length older) e.what w l.0 p
     ]
 
 pub next_task_loaded : (log : List Entry) (r : ℕ) (w : What) → AreAdmitted log → next_task log r ≡ Some w → IsCommitLoaded (tree_of log) w
 unfolding next_task
-next_task_loaded log r w all h = first_task_loaded (tree_of log) r log w (loads_loaded log all) h
+next_task_loaded log r w all h = first_task_loaded (tree_of log) (is_over log) r log w (loads_loaded log all) h
 
 -- an entry that a document acts in commits none
 pub acted_commits_none : (t s : Tree) (by : Option ℕ) (a : ℕ) (w : What) → admits t (entry by (Some a) w) ≡ true → IsCommitLoaded s w

@@ -9,12 +9,12 @@ use Rattle.tree_log.specs.Blanking.{is_open_to}
 use Rattle.tree_log.proofs.Admitted.{both}
 use Rattle.single_agent.specs.declared.session.Session.{Session}
 use Rattle.single_agent.specs.Session.{starts_of, started, start_entry}
-use Rattle.single_agent.specs.LegalLog.{IsLegalLog, Started, Exchanged}
+use Rattle.single_agent.specs.LegalLog.{lost_entry, IsLegalLog, Started, Exchanged, Gave_up}
 use Rattle.single_agent.specs.Decision.{Rules, rules_of, exchange}
 use Rattle.agent_laws.specs.Homes.{ActorsLoaded, is_loaded}
 use Rattle.agent_laws.proofs.Well.{admitted_well}
 use Rattle.agent_laws.proofs.Steps.{AreSteps, IsFit}
-use Rattle.agent_laws.proofs.Admitted.{start_fits, started_length, exchange-steps, longer, legal_admitted}
+use Rattle.agent_laws.proofs.Admitted.{start_fits, started_length, lost_fits, exchange-steps, longer, legal_admitted}
 use Rattle.agent_laws.proofs.Homed.{AreHomed, one_home, homed_grown}
 use Rattle.agent_laws.proofs.Grown.{step_grown}
 
@@ -55,6 +55,9 @@ legal_homed s log (Exchanged older r q legal there) few actors =
     let short : length older < 2 ^ 30 = omega (arith, longer es older) in
     let all : AreAdmitted older = legal_admitted s older legal short in
     (steps_homed (rules_of s) older es all (exchange-steps (rules_of s) older r q all short) actors (legal_homed s older legal short (actors_older es older actors))).1
+legal_homed s log (Gave_up older r legal there) few actors =
+    let short : length older < 2 ^ 30 = omega arith in
+    step_homed (rules_of s) older (lost_entry r) (legal_admitted s older legal short) (lost_fits (rules_of s) older r short) (λ a e. absurd cc) (legal_homed s older legal short actors.1)
 
 same_is_equal : (a b : Option ℕ) → are_same a b ≡ true → a ≡ b
 same_is_equal None b h = absurd (false≢true h)

@@ -14,7 +14,8 @@ use Rattle.origin_core.specs.Site.{site_of}
 use Rattle.origin_core.proofs.SameLaw.{same_is}
 use Rattle.tree_log.specs.Facts.{Birth}
 use Rattle.tree_log.specs.Tree.{Tree, home_of, origin_of}
-use Rattle.tree_log.specs.Homes.{is_same_site, is_group, is_of, pairs, home_for}
+use Rattle.tree_log.specs.Tree.{is as is_group}
+use Rattle.tree_log.specs.Homes.{is_same_site, is_of, pairs, home_for}
 use Rattle.single_agent.specs.Decision.{Rules}
 use Rattle.agent_laws.specs.Wellness.{AllBelow}
 use Rattle.agent_laws.specs.Homes.{is_loaded}

@@ -1,7 +1,8 @@
--- A play's log is no longer than a log may be.
+-- A play's log is longer than a log may be by the losses of renderers alone.
 use Rattle.std.proofs.Common.{◌≡◌, ℕ, ◌+◌, ◌<◌, ◌≤◌, ◌^◌, List, [], ◌∷◌, ◌++◌, length, Option, Some, None, Bool, true, false, refl, sym, subst, if◌then◌else◌, arith, inl, inr}
-use Rattle.std.specs.Prelude.{◌⊎◌, ◌||◌, ◌&&◌, ◌==◌, IsTrue}
+use Rattle.std.specs.Prelude.{◌⊎◌, ◌||◌, ◌&&◌, ◌==◌, not, IsTrue}
 use Rattle.std.proofs.lemmas.Bool.{eq-eqb}
+use Rattle.std.proofs.lemmas.Bool.Decides.{nat_tests}
 use Rattle.origin_core.specs.Origin.{is_same_origin_domain}
 use Rattle.tree_log.specs.declared.entry.Entry.{Entry}
 use Rattle.tree_log.specs.declared.entry.What.{What}
@@ -15,18 +16,22 @@ use Rattle.single_agent.specs.declared.request.ReplyOutcome.TheVariants as reply
 use Rattle.single_agent.specs.declared.act.Act.{Act}
 use Rattle.single_agent.specs.declared.act.Performed.{Performed}
 use Rattle.single_agent.specs.declared.act.Performed.TheVariants.{Answer, Ask}
-use Rattle.single_agent.specs.declared.act.Point.TheVariants.{Script}
+use Rattle.single_agent.specs.declared.act.Move.TheVariants.{Stays}
+use Rattle.single_agent.specs.declared.act.Point.{Point}
 use Rattle.single_agent.specs.declared.step.OpName.{OpName}
-use Rattle.single_agent.specs.Session.{starts_of}
+use Rattle.single_agent.specs.Session.{starts_of, lose_of}
 use Rattle.single_agent.specs.Navigation.{may_navigate, Choice, Existing, New, Nothing, choice}
-use Rattle.single_agent.specs.Decision.{Rules, rules_of, Decision, decide, exchange, asker_of, home_if_active, by, one, navigation, made_or_null, opener_entry, or_sync, open_chosen, is_live}
+use Rattle.single_agent.specs.Decision.{Rules, rules_of, Decision, decide, exchange, asker_of, home_if_active, by, one, navigation, made_or_null, opener_entry, or_sync, open_chosen, is_live, task_decision}
 use Rattle.single_agent.specs.StepAnswer.{Sight, perform}
-use Rattle.single_agent.specs.NextAct.{Left, op_of, move_by, move_of, next_move, step_left, sight, MovesTo}
-use Rattle.single_agent.specs.Turns.{Turned, log_of, record_of, told_of, most_entries, HasRoom, needs_room, Plays, ArePlayed}
+use Rattle.single_agent.specs.LegalLog.{lost_entry}
+use Rattle.single_agent.specs.NextTask.{next_task}
+use Rattle.single_agent.specs.NextAct.{Left, has_stopped, op_of, move_by, move_of, next_move, request_of, step_left, sight, exchanged, MovesTo}
+use Rattle.single_agent.specs.Turns.{Turned, log_of, record_of, told_of, most_entries, HasRoom, is_full, is_served, loses_next, needs_room, Plays, IsTurn, ArePlayed}
 use Rattle.agent_laws.specs.Actors.{is_next}
-use Rattle.agent_laws.proofs.Exchanges.{decided_or_none}
+use Rattle.agent_laws.proofs.Exchanges.{only_next, decided_or_none}
 use Rattle.single_agent.proofs.Admitted.{starts_length}
 use Rattle.agent_laws.proofs.Asked.{IsAskedBy, asked_by}
+use Rattle.agent_laws.proofs.Stopped.{how_many, at_most_all, stopped, none_starts, one_stops}
 
 -- A DECISION ADDS AT MOST TWO ENTRIES
 
@@ -86,43 +91,109 @@ exchange_few rules log r q other =
     decided_or_none (AddsFew (tree_of log) r q) rules log r q other (inl refl) (inl refl)
     (λ been home active. inr (both_hold (tree_of log) (asker_of q) r been home active, decide_short rules (tree_of log) _ r q))
 
+few_short : (needs : Bool) (own : List Entry) → IsFew needs own → length own ≤ 2
+few_short needs own (inl none) = subst (λ (es : List Entry). length es ≤ 2) (sym none) (omega arith)
+few_short needs own (inr few) = few.1
+
+task_short : (r place : ℕ) (o : Option What) → length (task_decision r place o).entries ≤ 2
+task_short r place None = omega arith
+task_short r place (Some w) = omega arith
+
+next_short : (rules : Rules) (log : List Entry) (r : ℕ) → length (exchange rules log r ask.Next).entries ≤ 2
+unfolding exchange
+next_short rules log r = task_short r (length log) (next_task log r)
+
+entries_short : (rules : Rules) (log : List Entry) (r : ℕ) (q : Request) → length (exchange rules log r q).entries ≤ 2
+entries_short rules log r q = by_kind (is_next q) refl
+  where
+    by_kind : (b : Bool) → is_next q ≡ b → length (exchange rules log r q).entries ≤ 2
+    by_kind true e = subst (λ (z : Request). length (exchange rules log r z).entries ≤ 2) (sym (only_next q e)) (next_short rules log r)
+    by_kind false e = few_short _ (exchange rules log r q).entries (exchange_few rules log r q e)
+
+exchanged_short : (rules : Rules) (log : List Entry) (r : ℕ) (o : Option Request) → length (exchanged rules log r o) ≤ 2
+exchanged_short rules log r None = omega arith
+exchanged_short rules log r (Some q) = entries_short rules log r q
+
 -- MOVES
 
-moved_few : (rules : Rules) (log : List Entry) (r : ℕ) (acts : List Act) (d made : ℕ) (op : OpName) (o : Performed) (act : Act) (own : List Entry) → IsAskedBy d o
-    → MovesTo rules r log acts (move_by d (Script made) op o) act own → IsFew (needs_room (tree_of log) r (move_by d (Script made) op o)) own
-moved_few rules log r acts d made op (Answer o) act own by_it m = inl m.1
-moved_few rules log r acts d made op (Ask q) act own by_it m =
+moved_few : (rules : Rules) (log : List Entry) (r : ℕ) (acts : List Act) (d : ℕ) (point : Point) (op : OpName) (o : Performed) (act : Act) (own : List Entry) → IsAskedBy d o
+    → MovesTo rules r log acts (move_by d point op o) act own → IsFew (needs_room (tree_of log) r (move_by d point op o)) own
+moved_few rules log r acts d point op (Answer o) act own by_it m = inl m.1
+moved_few rules log r acts d point op (Ask q) act own by_it m =
     subst (λ (es : List Entry). IsFew (is (home_if_active (tree_of log) (asker_of q)) r && is_active (tree_of log) (asker_of q)) es) (sym m.0) (exchange_few rules log r q by_it.other)
 
-move_few : (rules : Rules) (log : List Entry) (r : ℕ) (acts : List Act) (sees : ℕ → Sight) (o : Option Left) (act : Act) (own : List Entry) → MovesTo rules r log acts (move_of sees o) act own
-    → IsFew (needs_room (tree_of log) r (move_of sees o)) own
-move_few rules log r acts sees None act own m = inr (refl, subst (λ (es : List Entry). length es ≤ 2) (sym m.2) (omega arith))
-move_few rules log r acts sees (Some left) act own m =
-    moved_few rules log r acts left.doc left.made (op_of left.step) (perform (sees left.doc) left.doc left.step) act own (asked_by (sees left.doc) left.doc left.step) m
+move_few : (rules : Rules) (log : List Entry) (r : ℕ) (acts : List Act) (sees : ℕ → Sight) (stops : Bool) (o : Option Left) (act : Act) (own : List Entry)
+    → MovesTo rules r log acts (if stops then Stays else move_of sees o) act own → IsFew (needs_room (tree_of log) r (if stops then Stays else move_of sees o)) own
+move_few rules log r acts sees true o act own m = absurd m
+move_few rules log r acts sees false None act own m = inr (refl, subst (λ (es : List Entry). length es ≤ 2) (sym m.2) (omega arith))
+move_few rules log r acts sees false (Some left) act own m =
+    moved_few rules log r acts left.doc left.point (op_of left.step) (perform (sees left.doc) left.doc left.step) act own (asked_by (sees left.doc) left.doc left.step) m
 
-turn_few : (s : Session) (log : List Entry) (r : ℕ) (acts : List Act) (told : ℕ) (act : Option Act) (own : List Entry) → Plays s r log acts told act own → IsFew (needs_room (tree_of log) r (next_move s log acts)) own
+turn_few : (s : Session) (log : List Entry) (r : ℕ) (acts : List Act) (told : ℕ) (act : Option Act) (own : List Entry) → Plays false s r log acts told act own → IsFew (needs_room (tree_of log) r (next_move s log acts)) own
 unfolding next_move
-turn_few s log r acts told None own h = inl h.2
-turn_few s log r acts told (Some act) own h = move_few (rules_of s) log r acts (sight s log acts) (step_left s log acts) act own h.0
+turn_few s log r acts told None own h = inl h.1
+turn_few s log r acts told (Some act) own h = move_few (rules_of s) log r acts (sight s log acts) (has_stopped acts) (step_left s log acts) act own h.0
 
 length_append : (xs ys : List Entry) → length (xs ++ ys) ≡ length xs + length ys
 length_append [] ys = omega arith
 length_append (x ∷ xs) ys = let e : length (xs ++ ys) ≡ length xs + length ys = length_append xs ys in omega arith
 
-turn_length : (log own : List Entry) (needs : Bool) → length log ≤ most_entries → (IsTrue needs → HasRoom log) → IsFew needs own → length (own ++ log) ≤ most_entries
-turn_length log own needs le room (inl none) = subst (λ (es : List Entry). length (es ++ log) ≤ most_entries) (sym none) le
-turn_length log own needs le room (inr few) =
+-- a turn whose exchange isn't lost
+kept_length : (log own : List Entry) (needs : Bool) (n : ℕ) → length log ≤ most_entries + n → (IsTrue needs → HasRoom log) → IsFew needs own → length (own ++ log) ≤ most_entries + n
+kept_length log own needs n le room (inl none) = subst (λ (es : List Entry). length (es ++ log) ≤ most_entries + n) (sym none) le
+kept_length log own needs n le room (inr few) =
     let has : length log + 4 ≤ most_entries = room few.0 in
     let two : length own ≤ 2 = few.1 in
     let both : length (own ++ log) ≡ length own + length log = length_append own log in
     omega arith
 
-pub played_length : (s : Session) (turns : List Turned) → ArePlayed s turns → length s.start ≤ most_entries → length (log_of s turns) ≤ most_entries
-unfolding log_of
-played_length s [] played few = let e : length (starts_of s) ≡ length s.start = starts_length s in omega arith
-played_length s (t ∷ older) played few =
-    turn_length (log_of s older) t.own (needs_room (tree_of (log_of s older)) t.renderer (next_move s (log_of s older) (record_of t.renderer older))) (played_length s older played.1 few) played.0.room
-    (turn_few s (log_of s older) t.renderer (record_of t.renderer older) (told_of s t.renderer older) t.act t.own played.0.plays)
+-- one whose exchange is lost
+lost_length : (log es : List Entry) (r n : ℕ) (served : Bool) → length es ≤ 2 → length log ≤ most_entries + n
+    → length ((lost_entry r ∷ (if served && not (is_full log) then es else [])) ++ log) ≤ most_entries + (n + 1)
+lost_length log es r n served two le = by_tests served (is_full log) refl
+  where
+    by_tests : (b full : Bool) → is_full log ≡ full → length ((lost_entry r ∷ (if b && not full then es else [])) ++ log) ≤ most_entries + (n + 1)
+    by_tests false full e = omega (arith, le)
+    by_tests true true e = omega (arith, le)
+    by_tests true false e =
+        let room : length log + 4 ≤ most_entries = grind (arith, nat_tests) in
+        let both : length (es ++ log) ≡ length es + length log = length_append es log in
+        omega (arith, two)
 
-pub played_bounded : (s : Session) (turns : List Turned) → ArePlayed s turns → length s.start ≤ most_entries → length (log_of s turns) < 2 ^ 30
-played_bounded s turns played few = let le : length (log_of s turns) ≤ most_entries = played_length s turns played few in omega arith
+turn_length : (s : Session) (older : List Turned) (t : Turned) → IsTurn s older t → (lost : Bool) → loses_next s older t.renderer ≡ lost
+    → length (log_of s older) ≤ most_entries + how_many (stopped older) s.renderers → length (t.own ++ log_of s older) ≤ most_entries + how_many (stopped (t ∷ older)) s.renderers
+turn_length s older t turn false kept le =
+    let r : ℕ = t.renderer in
+    let log : List Entry = log_of s older in
+    let acts : List Act = record_of r older in
+    let plays : Plays false s r log acts (told_of s r older) t.act t.own = subst (λ (b : Bool). Plays b s r log acts (told_of s r older) t.act t.own) kept turn.plays in
+    let grown : length (t.own ++ log) ≤ most_entries + how_many (stopped older) s.renderers =
+    kept_length log t.own (needs_room (tree_of log) r (next_move s log acts)) (how_many (stopped older) s.renderers) le (λ needs. turn.room (kept, needs)) (turn_few s log r acts (told_of s r older) t.act t.own plays) in
+    let same : how_many (stopped older) s.renderers ≤ how_many (stopped (t ∷ older)) s.renderers = none_starts s older t turn s.renderers in
+    omega arith
+turn_length s older t turn true lost le =
+    let r : ℕ = t.renderer in
+    let log : List Entry = log_of s older in
+    let acts : List Act = record_of r older in
+    let plays : Plays true s r log acts (told_of s r older) t.act t.own = subst (λ (b : Bool). Plays b s r log acts (told_of s r older) t.act t.own) lost turn.plays in
+    let es : List Entry = exchanged (rules_of s) log r (request_of (next_move s log acts)) in
+    let grown : length (t.own ++ log) ≤ most_entries + (how_many (stopped older) s.renderers + 1) =
+    subst (λ (own : List Entry). length (own ++ log) ≤ most_entries + (how_many (stopped older) s.renderers + 1)) (sym plays.1)
+    (lost_length log es r (how_many (stopped older) s.renderers) (is_served (lose_of s r)) (exchanged_short (rules_of s) log r (request_of (next_move s log acts))) le) in
+    let more : how_many (stopped older) s.renderers + 1 ≤ how_many (stopped (t ∷ older)) s.renderers = one_stops s older t turn lost s.renderers turn.there in
+    omega arith
+
+-- a log is longer than the limit by no more than the renderers that have stopped
+stopped_length : (s : Session) (turns : List Turned) → ArePlayed s turns → length s.start ≤ most_entries → length (log_of s turns) ≤ most_entries + how_many (stopped turns) s.renderers
+unfolding log_of
+stopped_length s [] played few = let e : length (starts_of s) ≡ length s.start = starts_length s in omega arith
+stopped_length s (t ∷ older) played few = turn_length s older t played.0 (loses_next s older t.renderer) refl (stopped_length s older played.1 few)
+
+pub played_length : (s : Session) (turns : List Turned) → ArePlayed s turns → length s.start ≤ most_entries → length (log_of s turns) ≤ most_entries + s.renderers
+played_length s turns played few =
+    let le : length (log_of s turns) ≤ most_entries + how_many (stopped turns) s.renderers = stopped_length s turns played few in
+    let all : how_many (stopped turns) s.renderers ≤ s.renderers = at_most_all (stopped turns) s.renderers in
+    omega arith
+
+pub played_bounded : (s : Session) (turns : List Turned) → ArePlayed s turns → length s.start ≤ most_entries → s.renderers ≤ most_entries → length (log_of s turns) < 2 ^ 30
+played_bounded s turns played few renderers = let le : length (log_of s turns) ≤ most_entries + s.renderers = played_length s turns played few in omega arith

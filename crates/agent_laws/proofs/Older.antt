@@ -17,7 +17,7 @@ use Rattle.agent_laws.proofs.Choices.{root_below}
 abbrev pub group_of_doc : Tree → ℕ → Option ℕ
 group_of_doc t d = group_of t (nav_of t d)
 
-at_other : {A : Type 0} (n number : ℕ) (x : A) → n < number → at n number x ≡ None
+pub at_other : {A : Type 0} (n number : ℕ) (x : A) → n < number → at n number x ≡ None
 at_other n number x lt = rw (ne_eqb number n (λ e. absurd (omega arith))) refl
 
 made_before : (t : Tree) (by actor : Option ℕ) (w : What) → admits t (entry by actor w) ≡ true → (n : ℕ) → n < t.navs → unwrap_or (making n actor w) (t.nav n).made ≡ (t.nav n).made

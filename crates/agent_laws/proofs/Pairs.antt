@@ -1,5 +1,5 @@
 -- Alike requests on twin logs.
-use Rattle.std.proofs.Common.{◌≡◌, ℕ, ◌+◌, List, [], ◌∷◌, ◌++◌, length, Option, Some, None, Bool, true, false, refl, ap, ◌∙◌, sym, not, ◌||◌, if◌then◌else◌, inl, inr, subst}
+use Rattle.std.proofs.Common.{◌≡◌, ℕ, ◌+◌, List, [], ◌∷◌, ◌++◌, Option, Some, None, Bool, true, false, refl, ap, ◌∙◌, sym, not, ◌||◌, if◌then◌else◌, inl, inr, subst}
 use Rattle.std.specs.Prelude.{◌==◌, is_none}
 use Rattle.std.proofs.lemmas.Bool.{false≢true}
 use Rattle.plain_data.specs.declared.data.Data.{Data}
@@ -15,17 +15,16 @@ use Rattle.tree_log.specs.Tree.{Tree, tree_of, after, tree_of_step, home_of, ori
 use Rattle.tree_log.specs.Urls.{url_of}
 use Rattle.tree_log.specs.Blanking.{is_homed}
 use Rattle.single_agent.specs.declared.request.Request.{Request}
-use Rattle.single_agent.specs.declared.request.Request.TheVariants as ask
 use Rattle.single_agent.specs.declared.request.ReplyOutcome.{ReplyOutcome}
 use Rattle.single_agent.specs.declared.request.ReplyOutcome.TheVariants as reply
-use Rattle.single_agent.specs.NextTask.{task_of, first_task, next_task}
 use Rattle.single_agent.specs.Navigation.{flags_in, may_navigate, Choice, Existing, New, Nothing, choice}
-use Rattle.single_agent.specs.Decision.{Rules, Decision, decide, exchange, end_of, is_fragment, asker_of, home_if_active, by, one, group_in, load_for, framed, navigation, new_window, window_flags, window_name, unless, made_or_null, open_chosen, link_chosen, opener_entry, is_live, is_near, task_decision}
+use Rattle.single_agent.specs.Decision.{Rules, Decision, decide, exchange, end_of, is_fragment, asker_of, home_if_active, by, one, group_in, load_for, framed, navigation, new_window, window_flags, window_name, unless, made_or_null, open_chosen, link_chosen, opener_entry, is_live, is_near}
 use Rattle.agent_laws.specs.Actors.{is_next}
-use Rattle.agent_laws.specs.Twins.{bare_what, TwinLogs}
+use Rattle.agent_laws.specs.Twins.{TwinLogs, HomesStay}
 use Rattle.agent_laws.specs.Alike.{url_home, url_home_in, IsElsewhere, HasSameOrigin, Differs, Message, Gone_to, Linked, Opened, Framed, IsAlike}
 use Rattle.agent_laws.proofs.Exchanges.{only_next, exchange-asked, asked-decided, not_yours, unloaded}
-use Rattle.agent_laws.proofs.Twins.{Agree, agree_same, agree_at, agree_if, TwinWhat, same_twin, loading_twin, home_of_begin, home_of_open, home_of_frame, fragment_home, tree_of-twin, length-twin, end_of-twin}
+use Rattle.agent_laws.proofs.NextTwins.{next_pair}
+use Rattle.agent_laws.proofs.Twins.{Agree, agree_same, agree_at, agree_if, TwinWhat, same_twin, loading_twin, home_of_begin, home_of_open, home_of_frame, fragment_home, tree_of-twin, end_of-twin}
 
 -- THE ENTRIES OF A URL
 
@@ -203,48 +202,22 @@ differs_pair rules left right r x q q' h s d =
     (subst (λ (d : Decision). Agree r left d (answered rules (tree_of left) f (end_of left (asker_of q)) x q')) (sym (exchange-answered rules left x q same.1))
     (answered_agree rules left f (end_of left (asker_of q)) r x q q' d))
 
--- THE NEXT TASK
-
--- what waits doesn't depend on a URL or a message
-task_of-bare : (t : Tree) (x place : ℕ) (w : What) → task_of t x place (bare_what w) ≡ task_of t x place w
-task_of-bare t x place (Open _ _ _ _ _ _ _ _ _ None) = refl
-task_of-bare t x place (Open _ _ _ _ _ _ _ _ _ (Some load)) = refl
-task_of-bare t x place (Frame _ _ _ _ _ _ None) = refl
-task_of-bare t x place (Frame _ _ _ _ _ _ (Some load)) = refl
-task_of-bare t x place w = refl
-
-first_task-twin : (t : Tree) (r x : ℕ) (left right : List Entry) → TwinLogs r left right → first_task t x left ≡ first_task t x right
-first_task-twin t r x [] [] h = refl
-first_task-twin t r x (a ∷ left) (b ∷ right) h =
-    let same : task_of t x (length right) a.what ≡ task_of t x (length right) b.what =
-    sym (task_of-bare t x (length right) a.what) ∙ ap (λ (e : Entry). task_of t x (length right) e.what) h.0.same_bare ∙ task_of-bare t x (length right) b.what in
-    rw (first_task-twin t r x left right h.1, length-twin r left right h.1, same) refl
-first_task-twin t r x [] (b ∷ right) h = absurd h
-first_task-twin t r x (a ∷ left) [] h = absurd h
-
-next_task-twin : (r x : ℕ) (left right : List Entry) → TwinLogs r left right → next_task left x ≡ next_task right x
-unfolding next_task
-next_task-twin r x left right h = rw (tree_of-twin r left right h) (first_task-twin (tree_of right) r x left right h)
-
-next_pair : (rules : Rules) (left right : List Entry) (r x : ℕ) → TwinLogs r left right → Agree r left (exchange rules left x ask.Next) (exchange rules right x ask.Next)
-unfolding exchange
-next_pair rules left right r x h = rw (sym (length-twin r left right h), sym (next_task-twin r x left right h)) (agree_same r left (task_decision x (length left) (next_task left x)))
-
-same_pair : (rules : Rules) (left right : List Entry) (r x : ℕ) (q : Request) → TwinLogs r left right → is_fragment (tree_of left) (url_of left) q ≡ is_fragment (tree_of right) (url_of right) q
+-- equal requests
+same_pair : (rules : Rules) (left right : List Entry) (r x : ℕ) (q : Request) → TwinLogs r left right → HomesStay left → is_fragment (tree_of left) (url_of left) q ≡ is_fragment (tree_of right) (url_of right) q
     → (next : Bool) → is_next q ≡ next → Agree r left (exchange rules left x q) (exchange rules right x q)
-same_pair rules left right r x q h s false e =
+same_pair rules left right r x q h stay s false e =
     let f : Bool = is_fragment (tree_of left) (url_of left) q in
     rw (exchange-answered rules left x q e, answered-right rules left right r x f q h e s) (agree_same r left (answered rules (tree_of left) f (end_of left (asker_of q)) x q))
-same_pair rules left right r x q h s true e = subst (λ (z : Request). Agree r left (exchange rules left x z) (exchange rules right x z)) (sym (only_next q e)) (next_pair rules left right r x h)
+same_pair rules left right r x q h stay s true e = subst (λ (z : Request). Agree r left (exchange rules left x z) (exchange rules right x z)) (sym (only_next q e)) (next_pair rules left right r x h stay)
 
 -- one exchange of any renderer on twin logs of r: the outcomes are the same, and the logs after it are twin logs
-pub exchange-twin : (rules : Rules) (left right : List Entry) (r x : ℕ) (q q' : Request) → TwinLogs r left right → IsAlike rules left right r x q q'
+pub exchange-twin : (rules : Rules) (left right : List Entry) (r x : ℕ) (q q' : Request) → TwinLogs r left right → HomesStay left → IsAlike rules left right r x q q'
     → ((exchange rules left x q).outcome ≡ (exchange rules right x q').outcome) × TwinLogs r ((exchange rules left x q).entries ++ left) ((exchange rules right x q').entries ++ right)
-exchange-twin rules left right r x q q' h alike =
+exchange-twin rules left right r x q q' h stay alike =
     let a : Agree r left (exchange rules left x q) (exchange rules right x q') =
     elim (alike.alike) as (λ _. Agree r left (exchange rules left x q) (exchange rules right x q')) [
       | inl e ↦ subst (λ (z : Request). is_fragment (tree_of left) (url_of left) q ≡ is_fragment (tree_of right) (url_of right) z → Agree r left (exchange rules left x q) (exchange rules right x z)) e
-          (λ s. same_pair rules left right r x q h s (is_next q) refl) alike.same_kind
-      | inr d ↦ differs_pair rules left right r x q q' h alike.same_kind d.1
+          (λ s. same_pair rules left right r x q h stay s (is_next q) refl) alike.same_kind
+      | inr d ↦ differs_pair rules left right r x q q' h alike.same_kind d.2
     ] in
     (a.outcome, a.logs right h)

@@ -19,6 +19,7 @@ use Rattle.agent_laws.specs.Worlds.{Event, AreAlike, replies}
 use Rattle.agent_laws.proofs.Entries.{entry, at_next}
 use Rattle.agent_laws.proofs.Twins.{same_twin, tree_of-twin}
 use Rattle.agent_laws.proofs.Worlds.{replies-alike}
+use Rattle.agent_laws.proofs.HomesStay.{starts_stay}
 
 -- a start window by the origin of what it loads, where the home follows from that
 abbrev start_at : Tree → (Origin → ℕ) → Origin → List ℕ → Entry
@@ -75,5 +76,5 @@ pub sessions_alike : (s other : Session) (r : ℕ) (events others : List Event) 
     → AreAlike (rules_of s) r events others (starts_of s) (starts_of other)
     → replies (rules_of s) r events (record { log = starts_of s; heard = 0 }) ≡ replies (rules_of other) r others (record { log = starts_of other; heard = 0 })
 sessions_alike s other r events others same starts alike =
-    replies-alike (rules_of s) r events others (starts_of s) (starts_of other) 0 alike (starts_twin s other r same starts)
+    replies-alike (rules_of s) r events others (starts_of s) (starts_of other) 0 alike (starts_twin s other r same starts) (starts_stay s)
     ∙ ap (λ (rules : Rules). replies rules r others (record { log = starts_of other; heard = 0 })) same

@@ -59,11 +59,19 @@ pub data Differs (rules : Rules) (t : Tree) (fragment : Bool) (r x : ℕ) : Requ
       → HasUrlElsewhere rules t fragment r x (ask.Frame asker name flags (Some url))
       → Differs rules t fragment r x (ask.Frame asker name flags (Some url)) (ask.Frame asker name flags (Some other))
 
--- alike requests of renderer x, each on its own log
+-- the request differs from the other so, on its own log
+abbrev pub DiffersOn : Rules → List Entry → ℕ → ℕ → Request → Request → Type 0
+DiffersOn rules log r x request other = Differs rules (tree_of log) (is_fragment (tree_of log) (url_of log) request) r x request other
+
+-- alike requests of renderer x, each on its own log: equal ones; or ones that differ so on both logs, whose asker isn't homed
+-- at r on either
 pub record IsAlike (rules : Rules) (left right : List Entry) (r x : ℕ) (request other : Request) : Type 0 where
   pub same_kind : is_fragment (tree_of left) (url_of left) request ≡ is_fragment (tree_of right) (url_of right) other
   pub alike : (request ≡ other)
-      ⊎ (((home_of (tree_of left) (asker_of request) == r) ≡ false) × Differs rules (tree_of left) (is_fragment (tree_of left) (url_of left) request) r x request other)
+      ⊎ (((home_of (tree_of left) (asker_of request) == r) ≡ false)
+      × ((home_of (tree_of right) (asker_of other) == r) ≡ false)
+      × DiffersOn rules left r x request other
+      × DiffersOn rules right r x other request)
 
 -- URLs of start windows that renderer r can't tell apart, on the log before them: the same URL, or URLs of one origin for a
 -- document that isn't homed at r

@@ -6,3 +6,4 @@ pub mod Worlds
 pub mod Homes
 pub mod Sights
 pub mod Belonging
+pub mod Messages

@@ -1,5 +1,5 @@
 -- Two logs that a renderer can't tell apart.
-use Rattle.std.specs.Prelude.{◌≡◌, ℕ, List, [], ◌∷◌, Option, Some, None, Bool}
+use Rattle.std.specs.Prelude.{◌≡◌, ◌<◌, ℕ, List, [], ◌∷◌, Option, Some, None, Bool}
 use Rattle.tree_log.specs.declared.entry.Entry.{Entry}
 use Rattle.tree_log.specs.declared.entry.Load.{Load}
 use Rattle.tree_log.specs.declared.entry.Target.TheVariants as targets
@@ -8,7 +8,7 @@ use Rattle.tree_log.specs.declared.entry.What.{What}
 use Rattle.tree_log.specs.declared.entry.What.TheVariants.{Open, Frame, Begin, Fragment, Post, Fire, Lapse}
 use Rattle.plain_data.specs.declared.data.Data.TheVariants as data'
 use Rattle.tree_log.specs.Blanking.{blank, is_homed}
-use Rattle.tree_log.specs.Tree.{tree_of}
+use Rattle.tree_log.specs.Tree.{Tree, tree_of, home_of}
 
 abbrev pub bare_load : Load → Load
 bare_load load = record load { url = [] }
@@ -47,3 +47,18 @@ TwinLogs r (a ∷ left) [] = ⊥
 abbrev pub told : ℕ → List Entry → List Entry
 told r [] = []
 told r (e ∷ older) = blank (is_homed (tree_of (e ∷ older)) r) e ∷ told r older
+
+-- LOGS WHOSE HOMES STAY
+
+-- a message is for a document that is there
+abbrev pub IsForThere : Tree → What → Type 0
+IsForThere t (Post to _ _ _ _) = to < t.docs
+IsForThere t w = Unit {0}
+
+abbrev pub KeepsHomes : Tree → Tree → Type 0
+KeepsHomes t s = (d : ℕ) → d < t.docs → home_of s d ≡ home_of t d
+
+-- each message of the log is for a document that is there by then, and no entry gives a document that is there another home
+abbrev pub HomesStay : List Entry → Type 0
+HomesStay [] = Unit {0}
+HomesStay (e ∷ older) = IsForThere (tree_of older) e.what × KeepsHomes (tree_of older) (tree_of (e ∷ older)) × HomesStay older

@@ -2,16 +2,16 @@
 ghost use Rattle.agent_laws.specs.Actors.{is_next, AreActedBy, IsFenced};
 ghost use Rattle.agent_laws.specs.Alike.{AreAlikeStarts, IsAlike};
 ghost use Rattle.agent_laws.specs.Belonging.{Belongs, IsClosed, RegistersBelong, StoresBelong};
-ghost use Rattle.agent_laws.specs.Homes.{ActorsLoaded};
+ghost use Rattle.agent_laws.specs.Homes.{ActorsLoaded, HasWebPages};
 ghost use Rattle.agent_laws.specs.Sights.{AgreeOn, HoldsGroup, HoldsKept, sight_of};
-ghost use Rattle.agent_laws.specs.Twins.{TwinLogs, told};
+ghost use Rattle.agent_laws.specs.Twins.{TwinLogs, told, HomesStay};
 ghost use Rattle.agent_laws.specs.Wellness.{AllBelow, IsWell};
 ghost use Rattle.agent_laws.specs.Worlds.{Event, AreAlike, replies};
 ghost use Rattle.origin_core.specs.Origin.{is_same_origin_domain};
 ghost use Rattle.single_agent.specs.Access.{got};
 ghost use Rattle.single_agent.specs.Decision.{Rules, rules_of, asker_of, exchange};
-ghost use Rattle.single_agent.specs.LegalLog.{IsLegalLog};
-ghost use Rattle.single_agent.specs.LegalRecord.{IsLegalRecord};
+ghost use Rattle.single_agent.specs.LegalLog.{IsLegalLog, lost_entry};
+ghost use Rattle.single_agent.specs.LegalRecord.{about, IsLegalRecord};
 ghost use Rattle.single_agent.specs.LocationAccess.{location};
 ghost use Rattle.single_agent.specs.Navigation.{choice, Existing};
 ghost use Rattle.single_agent.specs.NextAct.{is_seen_by, shown_to};
@@ -28,10 +28,9 @@ ghost use Rattle.single_agent.specs.declared.request.Request.TheVariants as ask;
 ghost use Rattle.single_agent.specs.declared.request.Request.{Request};
 ghost use Rattle.single_agent.specs.declared.session.Session.{Session};
 ghost use Rattle.single_agent.specs.declared.step.Step.{Step};
-ghost use Rattle.std.specs.Prelude.{◌≡◌, ◌⊎◌, ◌<◌, ◌≤◌, ◌^◌, ◌++◌, [], ℕ, Bool, Some, None, true, false, length, List};
+ghost use Rattle.std.specs.Prelude.{◌≡◌, ◌⊎◌, ◌+◌, ◌<◌, ◌≤◌, ◌^◌, ◌++◌, ◌∷◌, [], ℕ, Bool, Some, None, true, false, length, List};
 ghost use Rattle.tree_log.specs.Admits.{AreAdmitted};
 ghost use Rattle.tree_log.specs.Blanking.{blanked, is_homed, is_open_to};
-ghost use Rattle.tree_log.specs.Log.{made_by};
 ghost use Rattle.tree_log.specs.Tree.{tree_of, group_of, children_of, origin_of, home_of};
 ghost use Rattle.tree_log.specs.Urls.{url_of};
 ghost use Rattle.tree_log.specs.declared.entry.Entry.{Entry};
@@ -127,22 +126,30 @@ pub fn steps_stay_in_their_group()
         StoresBelong (tree_of log) stores → StoresBelong (tree_of (more ++ log)) stores }
 {}
 
+/// Each message of an admitted log is for a document that is there by then, and documents keep their homes. Whatever is asked,
+/// and whatever renderer is lost, that stays so.
+pub fn documents_keep_their_homes()
+    ensures admitted { (log : List Entry) → AreAdmitted log → HomesStay log }
+    ensures exchange { (rules : Rules) (log : List Entry) (r : ℕ) (q : Request) → HomesStay log → HomesStay ((exchange rules log r q).entries ++ log) }
+    ensures loss { (log : List Entry) (r : ℕ) → HomesStay log → HomesStay (lost_entry r ∷ log) }
+{}
+
 /// Twin logs for a renderer have one tree, and it is told the same of both. Alike requests of any renderer on them have one
-/// outcome, and leave twin logs.
+/// outcome, and leave twin logs, where documents keep their homes.
 pub fn twin_logs()
     ensures tree { (r : ℕ) (left right : List Entry) → TwinLogs r left right → tree_of left ≡ tree_of right }
     ensures told { (r : ℕ) (left right : List Entry) → TwinLogs r left right → told r left ≡ told r right }
     ensures exchange { (rules : Rules) (left right : List Entry) (r x : ℕ) (q other : Request) →
-        TwinLogs r left right → IsAlike rules left right r x q other →
+        TwinLogs r left right → HomesStay left → IsAlike rules left right r x q other →
         ((exchange rules left x q).outcome ≡ (exchange rules right x other).outcome)
         × TwinLogs r ((exchange rules left x q).entries ++ left) ((exchange rules right x other).entries ++ right) }
 {}
 
 /// Whatever the renderers do that differs only in what one of them isn't told, the replies to this one are the same: on twin
-/// logs, and so in two sessions whose start windows it can't tell apart.
+/// logs whose documents keep their homes, and so in two sessions whose start windows it can't tell apart.
 pub fn two_runs()
     ensures logs { (rules : Rules) (r : ℕ) (events others : List Event) (left right : List Entry) (heard : ℕ) →
-        AreAlike rules r events others left right → TwinLogs r left right →
+        AreAlike rules r events others left right → TwinLogs r left right → HomesStay left →
         replies rules r events (record { log = left; heard = heard }) ≡ replies rules r others (record { log = right; heard = heard }) }
     ensures starts { (s other : Session) (r : ℕ) → rules_of s ≡ rules_of other →
         AreAlikeStarts (rules_of s) r [] s.start other.start → TwinLogs r (starts_of s) (starts_of other) }
@@ -160,9 +167,9 @@ pub fn open_documents_have_one_home()
         home_of (tree_of log) x ≡ home_of (tree_of log) y }
 {}
 
-/// A record that is legal against a log is legal against a longer one, where the renderer made none of the further entries.
+/// A record that is legal against a log is legal against a longer one, where no further entry is the renderer's or its loss.
 pub fn records_on_longer_logs()
-    ensures { (s : Session) (r : ℕ) (more log : List Entry) (acts : List Act) → IsLegalRecord s r log acts → made_by r more ≡ [] →
+    ensures { (s : Session) (r : ℕ) (more log : List Entry) (acts : List Act) → IsLegalRecord s r log acts → about r more ≡ [] →
         IsLegalRecord s r (more ++ log) acts }
 {}
 
@@ -178,19 +185,26 @@ pub fn what_is_told()
         shown_to asker (told (home_of (tree_of log) asker) log) ≡ shown_to asker log }
 {}
 
-/// The log of a play is no longer than a log may be, each of its entries could follow those before it, and only loaded documents
-/// act, since an initial one runs no script. No window leads out of its group. So documents of one group that are same origin-domain have one home, and a document
-/// sees of what its renderer is told all that it sees of the log.
+/// The log of a play is longer than a log may be by the losses of renderers alone, of which each has at most one. Each of its
+/// entries could follow those before it, and no window leads out of its group. Where each page has an http or https URL, only
+/// loaded documents act, since an initial one runs no script and no handler. So documents of one group that are same
+/// origin-domain have one home, and a document sees of what its renderer is told all that it sees of the log.
 pub fn played_logs()
-    ensures short { (s : Session) (turns : List Turned) → ArePlayed s turns → length s.start ≤ most_entries → length (log_of s turns) ≤ most_entries }
-    ensures admitted { (s : Session) (turns : List Turned) → ArePlayed s turns → length s.start ≤ most_entries → AreAdmitted (log_of s turns) }
-    ensures actors { (s : Session) (turns : List Turned) → ArePlayed s turns → length s.start ≤ most_entries → ActorsLoaded (log_of s turns) }
-    ensures closed { (s : Session) (turns : List Turned) → ArePlayed s turns → length s.start ≤ most_entries → IsClosed (tree_of (log_of s turns)) }
-    ensures homes { (s : Session) (turns : List Turned) → ArePlayed s turns → length s.start ≤ most_entries →
+    ensures short { (s : Session) (turns : List Turned) → ArePlayed s turns → length s.start ≤ most_entries →
+        length (log_of s turns) ≤ most_entries + s.renderers }
+    ensures admitted { (s : Session) (turns : List Turned) → ArePlayed s turns → length s.start ≤ most_entries → s.renderers ≤ most_entries →
+        AreAdmitted (log_of s turns) }
+    ensures actors { (s : Session) (turns : List Turned) → ArePlayed s turns → length s.start ≤ most_entries → s.renderers ≤ most_entries →
+        HasWebPages s → ActorsLoaded (log_of s turns) }
+    ensures closed { (s : Session) (turns : List Turned) → ArePlayed s turns → length s.start ≤ most_entries → s.renderers ≤ most_entries →
+        IsClosed (tree_of (log_of s turns)) }
+    ensures homes { (s : Session) (turns : List Turned) → ArePlayed s turns → length s.start ≤ most_entries → s.renderers ≤ most_entries →
+        HasWebPages s →
         (x y : ℕ) → x < (tree_of (log_of s turns)).docs → y < (tree_of (log_of s turns)).docs →
         is_open_to (tree_of (log_of s turns)) x y ≡ true →
         home_of (tree_of (log_of s turns)) x ≡ home_of (tree_of (log_of s turns)) y }
-    ensures seen { (s : Session) (turns : List Turned) → ArePlayed s turns → length s.start ≤ most_entries →
+    ensures seen { (s : Session) (turns : List Turned) → ArePlayed s turns → length s.start ≤ most_entries → s.renderers ≤ most_entries →
+        HasWebPages s →
         (asker : ℕ) → asker < (tree_of (log_of s turns)).docs →
         shown_to asker (told (home_of (tree_of (log_of s turns)) asker) (log_of s turns)) ≡ shown_to asker (log_of s turns) }
 {}

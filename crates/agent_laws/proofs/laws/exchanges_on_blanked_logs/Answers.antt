@@ -6,4 +6,4 @@ pub returns-clause-outcome : goal.returns-clause-outcome
 returns-clause-outcome c = outcome-blanked
 
 pub returns-clause-task : goal.returns-clause-task
-returns-clause-task c = λ kept log r homed. next_task-blanked kept log r
+returns-clause-task c = next_task-blanked

@@ -9,16 +9,16 @@ pub returns-clause-short : goal.returns-clause-short
 returns-clause-short c = played_length
 
 pub returns-clause-admitted : goal.returns-clause-admitted
-returns-clause-admitted c = λ s turns played few. played_admitted s turns played (played_bounded s turns played few)
+returns-clause-admitted c = λ s turns played few renderers. played_admitted s turns played (played_bounded s turns played few renderers)
 
 pub returns-clause-actors : goal.returns-clause-actors
-returns-clause-actors c = λ s turns played few. played_actors s turns played (played_bounded s turns played few)
+returns-clause-actors c = λ s turns played few renderers web. played_actors s turns web played (played_bounded s turns played few renderers)
 
 pub returns-clause-homes : goal.returns-clause-homes
-returns-clause-homes c = λ s turns played few. played_homes s turns played (played_bounded s turns played few)
+returns-clause-homes c = λ s turns played few renderers web. played_homes s turns web played (played_bounded s turns played few renderers)
 
 pub returns-clause-seen : goal.returns-clause-seen
-returns-clause-seen c = λ s turns played few. played_seen s turns played (played_bounded s turns played few)
+returns-clause-seen c = λ s turns played few renderers web. played_seen s turns web played (played_bounded s turns played few renderers)
 
 pub returns-clause-closed : goal.returns-clause-closed
-returns-clause-closed c = λ s turns played few. closed_played s turns played (played_bounded s turns played few)
+returns-clause-closed c = λ s turns played few renderers. closed_played s turns played (played_bounded s turns played few renderers)
