@@ -38,6 +38,8 @@ use Rattle.single_agent.specs.declared.step.Step.{Step}
 use Rattle.single_agent.specs.declared.step.Step.TheVariants as step
 use Rattle.single_agent.specs.declared.act.Act.{Act}
 use Rattle.single_agent.specs.declared.act.Performed.TheVariants.{Ask}
+use Rattle.single_agent.specs.declared.act.Point.{Point}
+use Rattle.single_agent.specs.declared.act.Point.TheVariants.{Script, Handler}
 use Rattle.single_agent.specs.declared.act.Running.{Running}
 use Rattle.single_agent.specs.declared.outcome.Outcome.{Outcome}
 use Rattle.single_agent.specs.declared.outcome.Outcome.TheVariants as outcome
@@ -45,14 +47,14 @@ use Rattle.single_agent.specs.declared.outcome.Rule.{Rule}
 use Rattle.single_agent.specs.declared.outcome.Rule.TheVariants.{S3, S4}
 use Rattle.single_agent.specs.declared.request.Request.{Request}
 use Rattle.single_agent.specs.declared.request.Request.TheVariants as request
-use Rattle.single_agent.specs.Session.{script_in, script_at, script_of}
+use Rattle.single_agent.specs.Session.{steps_in, steps_at, steps_of}
 use Rattle.single_agent.specs.Access as access
 use Rattle.single_agent.specs.Access.{Seen, foreign_property}
 use Rattle.single_agent.specs.WindowAccess.{set_by, window_set, window_of, window}
 use Rattle.single_agent.specs.LocationAccess.{location_set, location}
 use Rattle.single_agent.specs.Methods.{if_own, built_in, run, run_found, run_got, called}
 use Rattle.single_agent.specs.StepAnswer.{Sight, held, operand_value, object_of, performed, on_object, frame_at, framed, dropped, perform, changed}
-use Rattle.single_agent.specs.NextAct.{Left, left_at, left_on, step_left, running, newest_length}
+use Rattle.single_agent.specs.NextAct.{Left, made_before, left_at, left_on, step_left, running, newest_length}
 use Rattle.script_steps.specs.Built.{asks_where_set, asks_where_called, is_built, IsBuilt, is_made, HasBuilt, AreBuilt}
 
 -- THE STEPS OF A SESSION
@@ -71,31 +73,32 @@ all_at P [] i x all h = absurd cc
 all_at P (y ∷ ys) zero x all h = let same : y ≡ x = cc in subst P same (All-head P y ys all)
 all_at P (y ∷ ys) (suc i) x all h = all_at P ys i x (All-tail P y ys all) h
 
-built_in_page : (page : Option Page) → ((p : Page) → page ≡ Some p → HasBuilt p) → All IsBuilt (script_in page)
-built_in_page None h = All-nil IsBuilt
-built_in_page (Some p) h = (h p refl).script
+built_in_page : (point : Point) (page : Option Page) → ((p : Page) → page ≡ Some p → HasBuilt p) → All IsBuilt (steps_in point page)
+built_in_page point None h = All-nil IsBuilt
+built_in_page (Script made) (Some p) h = (h p refl).script
+built_in_page (Handler place made) (Some p) h = (h p refl).handler
 
-pub built_at : (s : Session) (url : List ℕ) → AreBuilt s → All IsBuilt (script_at s url)
-unfolding script_at
-built_at s url all = built_in_page (find _ s.pages) (λ p e. all_found HasBuilt _ s.pages p all e)
+pub built_at : (s : Session) (url : List ℕ) (point : Point) → AreBuilt s → All IsBuilt (steps_at s url point)
+unfolding steps_at
+built_at s url point all = built_in_page point (find _ s.pages) (λ p e. all_found HasBuilt _ s.pages p all.0 e)
 
-pub built_of : (s : Session) (t : Tree) (urls : ℕ → List ℕ) (d : ℕ) → AreBuilt s → All IsBuilt (script_of s t urls d)
-unfolding script_of
-built_of s t urls d all = either (has_scripts (t.nav (nav_of t d)).made.flags) where
-  either : (b : Bool) → All IsBuilt (if b then [] else script_at s (urls d))
+pub built_of : (s : Session) (t : Tree) (urls : ℕ → List ℕ) (d : ℕ) (point : Point) → AreBuilt s → All IsBuilt (steps_of s t urls d point)
+unfolding steps_of
+built_of s t urls d point all = either (has_scripts (t.nav (nav_of t d)).made.flags) where
+  either : (b : Bool) → All IsBuilt (if b then [] else steps_at s (urls d) point)
   either true = All-nil IsBuilt
-  either false = built_at s (urls d) all
+  either false = built_at s (urls d) point all
 
 pub built_on : (s : Session) (t : Tree) (urls : ℕ → List ℕ) (run : Running) (left : Left) → AreBuilt s → left_on s t urls run ≡ Some left → is_built left.step ≡ true
 built_on s t urls run left all h = here (is_active t run.doc) h where
-  taken : (found : Option Step) → slice_get (script_of s t urls run.doc) run.made ≡ found → option_map (left_at run) found ≡ Some left → is_built left.step ≡ true
+  taken : (found : Option Step) → slice_get (steps_of s t urls run.doc run.point) (made_before run.point) ≡ found → option_map (left_at run) found ≡ Some left → is_built left.step ≡ true
   taken None at e = absurd cc
   taken (Some step) at e =
       let same : left_at run step ≡ left = cc in
-      subst (λ (l : Left). is_built l.step ≡ true) same (all_at IsBuilt (script_of s t urls run.doc) run.made step (built_of s t urls run.doc all) at)
+      subst (λ (l : Left). is_built l.step ≡ true) same (all_at IsBuilt (steps_of s t urls run.doc run.point) (made_before run.point) step (built_of s t urls run.doc run.point all) at)
 
-  here : (b : Bool) → (if b then option_map (left_at run) (slice_get (script_of s t urls run.doc) run.made) else None) ≡ Some left → is_built left.step ≡ true
-  here true e = taken (slice_get (script_of s t urls run.doc) run.made) refl e
+  here : (b : Bool) → (if b then option_map (left_at run) (slice_get (steps_of s t urls run.doc run.point) (made_before run.point)) else None) ≡ Some left → is_built left.step ≡ true
+  here true e = taken (slice_get (steps_of s t urls run.doc run.point) (made_before run.point)) refl e
   here false e = absurd cc
 
 pub built_for : (s : Session) (t : Tree) (urls : ℕ → List ℕ) (run : Option Running) (left : Left) → AreBuilt s → option_and_then (left_on s t urls) run ≡ Some left → is_built left.step ≡ true

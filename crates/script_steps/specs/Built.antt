@@ -1,5 +1,5 @@
 -- The steps that sessions may have so far. None of them navigates, names, closes or posts.
-use Rattle.std.specs.Prelude.{Bool, true, false, not, ◌||◌, All, IsTrue}
+use Rattle.std.specs.Prelude.{◌≡◌, [], Bool, true, false, not, ◌||◌, All, IsTrue}
 use Rattle.window_props.specs.declared.key.Key.{Key}
 use Rattle.window_props.specs.declared.platform.Platform.TheVariants.{Location, Name, Opener, Href, Close, PostMessage, Assign, Replace}
 use Rattle.window_props.specs.Keys.{same_key}
@@ -41,5 +41,6 @@ pub record HasBuilt (page : Page) : Type 0 where
   pub script : All IsBuilt page.script
   pub handler : All IsBuilt page.handler
 
+-- and no renderer is to be lost yet
 abbrev pub AreBuilt : Session → Type 0
-AreBuilt s = All HasBuilt s.pages
+AreBuilt s = All HasBuilt s.pages × (s.lose ≡ [])

@@ -10,6 +10,7 @@ use Rattle.single_agent.specs.declared.session.Session.{Session}
 use Rattle.single_agent.specs.declared.act.Act.{Act}
 use Rattle.single_agent.specs.declared.act.Act.TheVariants.{Step as StepAct}
 use Rattle.single_agent.specs.declared.act.Answer.{Answer}
+use Rattle.single_agent.specs.declared.act.Answer.TheVariants as answer
 use Rattle.single_agent.specs.declared.act.Move.TheVariants.{Asks}
 use Rattle.single_agent.specs.declared.act.Point.{Point}
 use Rattle.single_agent.specs.declared.act.Running.{Running}
@@ -18,12 +19,16 @@ use Rattle.single_agent.specs.declared.request.Request.TheVariants as ask
 use Rattle.single_agent.specs.declared.request.ReplyOutcome.{ReplyOutcome}
 use Rattle.single_agent.specs.declared.request.ReplyOutcome.TheVariants as reply
 use Rattle.single_agent.specs.declared.step.OpName.{OpName}
+use Rattle.single_agent.specs.declared.step.OpName.TheVariants as names
+use Rattle.single_agent.specs.declared.outcome.Outcome.TheVariants as outcome
+use Rattle.window_props.specs.declared.value.Value.TheVariants as value
+use Rattle.single_agent.specs.Values.{null}
 use Rattle.script_steps.specs.Built.{is_made}
 use Rattle.origin_core.specs.Flags.{union}
 use Rattle.single_agent.specs.Navigation.{flags_in}
 use Rattle.single_agent.specs.Decision.{Rules, rules_of, framed, Decision, decide, is_fragment, asker_of, home_if_active, asked, exchange}
 use Rattle.single_agent.specs.Registers.{value_in}
-use Rattle.single_agent.specs.NextAct.{Left, registers_after, one_more, answer_of}
+use Rattle.single_agent.specs.NextAct.{Left, registers_after, one_more, rule_of, done_of, answer_of}
 use Rattle.single_agent.specs.Turns.{IsFull, needs_room}
 use Rattle.single_agent.proofs.Mine.{IsMine, mine_now, yours_of, IsNoTask, exchange_asked}
 use Rattle.tree_log.specs.Urls.{url_of}
@@ -106,14 +111,21 @@ made_there rules log r q nav made h = by (is_active (tree_of log) (asker_of q)) 
 
 -- the window that an answer holds is there once the log is heard
 pub answer_there : (s : Session) (r : ℕ) (op : OpName) (q : Request) (replied : Replied) (told : Told) (t : Tree) (l m : Ledger) → is_made q ≡ true → Answers (rules_of s) r q l replied told m → t ≡ tree_of m.log
-    → (o : ReplyOutcome) → o ≡ (asked (rules_of s) l.log r q).outcome → IsValueThere t (value_in (answer_of op o))
-answer_there s r op q replied told t l m made a tree (reply.Made nav) e =
-    subst (λ (u : Tree). nav < u.navs) (sym (tree ∙ ap tree_of a.log)) (made_there (rules_of s) l.log r q nav made (sym e))
-answer_there s r op q replied told t l m made a tree reply.Done e = done op where
-  done : (o : OpName) → IsValueThere t (value_in (answer_of o reply.Done))
-  done Rattle.single_agent.specs.declared.step.OpName.TheVariants.Set = tt
+    → (o : ReplyOutcome) (given : Answer) → o ≡ (asked (rules_of s) l.log r q).outcome → Some given ≡ answer_of op o → IsValueThere t (value_in given)
+answer_there s r op q replied told t l m made a tree (reply.Made nav) given e gives =
+    let same : answer.Outcome (outcome.Value (value.Window nav)) ≡ given = cc in
+    subst (λ (x : Answer). IsValueThere t (value_in x)) same (subst (λ (u : Tree). nav < u.navs) (sym (tree ∙ ap tree_of a.log)) (made_there (rules_of s) l.log r q nav made (sym e)))
+answer_there s r op q replied told t l m made a tree reply.Done given e gives = let same : done_of op ≡ given = cc in subst (λ (x : Answer). IsValueThere t (value_in x)) same (done op) where
+  done : (o : OpName) → IsValueThere t (value_in (done_of o))
+  done names.Set = tt
   done _ = tt
-answer_there s r op q replied told t l m made a tree _ e = tt
+answer_there s r op q replied told t l m made a tree (reply.Security n) given e gives =
+    let same : answer.Outcome (outcome.Security (rule_of n)) ≡ given = cc in subst (λ (x : Answer). IsValueThere t (value_in x)) same tt
+answer_there s r op q replied told t l m made a tree reply.Null given e gives =
+    let same : answer.Outcome (outcome.Value null) ≡ given = cc in subst (λ (x : Answer). IsValueThere t (value_in x)) same tt
+answer_there s r op q replied told t l m made a tree (reply.Unloaded place) given e gives =
+    let same : answer.Unloaded ≡ given = cc in subst (λ (x : Answer). IsValueThere t (value_in x)) same tt
+answer_there s r op q replied told t l m made a tree _ given e gives = absurd cc
 
 -- A STEP MORE
 
@@ -121,20 +133,21 @@ pub step_last : (xs ys : List Act) (a : Act) → ys ≡ xs ++ a ∷ [] → rever
 step_last xs ys a e = ap reverse e ∙ reverse-append xs (a ∷ [])
 
 pub asked_acted : (s : Session) (r doc : ℕ) (point : Point) (op : OpName) (q : Request) (replied : Replied) (told : Told) (given : Answer) (left : Left) (xs ys : List Act) (at : ℕ) (w v : Holds) (l m : Ledger)
-    → is_made q ≡ true → Answers (rules_of s) r q l replied told m → HeardAll r l v m → ((o : ReplyOutcome) → Replies replied o → given ≡ answer_of op o)
+    → is_made q ≡ true → Answers (rules_of s) r q l replied told m → HeardAll r l v m → ((o : ReplyOutcome) → Replies replied o → Some given ≡ answer_of op o)
     → w.acts ≡ reverse xs → v.acts ≡ reverse ys → ys ≡ xs ++ StepAct at doc point op given ∷ [] → at ≡ v.heard
     → v.run ≡ option_map one_more w.run → left_now s w ≡ Some left → v.registers ≡ registers_after (Some left) given w.registers → v.stores ≡ w.stores → stores_then (Some left) w ≡ w.stores → AskEnds s r doc point op q w l Acted v m
 asked_acted s r doc point op q replied told given left xs ys at w v l m made a all gives old new pushed is_at run is registers stores same_stores =
-    let same : exchange (rules_of s) l.log r q ≡ asked (rules_of s) l.log r q = exchanged (rules_of s) l.log r q made a.yours in
-    let answered : given ≡ answer_of op (exchange (rules_of s) l.log r q).outcome = gives (asked (rules_of s) l.log r q).outcome a.replies ∙ ap (λ (d : Decision). answer_of op d.outcome) (sym same) in (
+    let same : exchange (rules_of s) l.log r q ≡ asked (rules_of s) l.log r q = exchanged (rules_of s) l.log r q made a.yours in (
       λ n. a.room (active_if (is_yours l.log r q) (is_active (tree_of l.log) (asker_of q)) n),
       record {
         log = a.log ∙ ap (λ (d : Decision). d.entries ++ l.log) (sym same);
         few = λ short. subst (λ (g : List Entry). length g ≤ 20000) (sym a.log) (asked_few (rules_of s) l.log r q short a.room);
+        given = given;
+        gives = gives (asked (rules_of s) l.log r q).outcome a.replies ∙ ap (λ (d : Decision). answer_of op d.outcome) (sym same);
         acts = new ∙ step_last xs ys (StepAct at doc point op given) pushed ∙ ap (λ k. StepAct k doc point op given ∷ reverse xs) (is_at ∙ all.heard)
-            ∙ ap (λ g. StepAct (length m.log) doc point op g ∷ reverse xs) answered ∙ ap (λ acts. StepAct (length m.log) doc point op (answer_of op (exchange (rules_of s) l.log r q).outcome) ∷ acts) (sym old);
+            ∙ ap (λ acts. StepAct (length m.log) doc point op given ∷ acts) (sym old);
         run = run;
-        registers = registers ∙ ap (λ (g : Answer). registers_after (Some left) g w.registers) answered ∙ ap (λ (o : Option Left). registers_after o (answer_of op (exchange (rules_of s) l.log r q).outcome) w.registers) (sym is);
+        registers = registers ∙ ap (λ (o : Option Left). registers_after o given w.registers) (sym is);
         stores = stores;
         same = ap (λ (o : Option Left). stores_then o w) is ∙ same_stores;
         all = all;

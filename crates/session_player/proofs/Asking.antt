@@ -10,7 +10,7 @@ use Rattle.tree_log.specs.Facts.{gathered, loads_after, with_load}
 use Rattle.tree_log.specs.Tree.{Tree, tree_of, is, home_of, is_active, nav_of, children_of}
 use Rattle.tree_log.specs.Urls.{url_of}
 use Rattle.tree_log.specs.Admits.{admits, AreAdmitted}
-use Rattle.tree_log.proofs.Admitted.{StandsIfAny, LoadsStand, AllStand, loads_stand, few_of}
+use Rattle.tree_log.proofs.Admitted.{StandsIfAny, TaskStands, AllStand, tasks_stand, few_of}
 use Rattle.origin_core.specs.Flags.{union}
 use Rattle.single_agent.specs.declared.request.Request.{Request}
 use Rattle.single_agent.specs.declared.request.Request.TheVariants as ask
@@ -51,7 +51,7 @@ if_loaded : (t : Tree) (nav : ℕ) (load : Option Load) (before : List ℕ) → 
 if_loaded t nav None before s all = all
 if_loaded t nav (Some load) before s all = All-push (λ d. d < t.docs) before load.doc all s.doc
 
-loaded_there : (t : Tree) (w : What) (before : List ℕ) → LoadsStand t w → All (λ d. d < t.docs) before → All (λ d. d < t.docs) (loads_after w before)
+loaded_there : (t : Tree) (w : What) (before : List ℕ) → TaskStands t w → All (λ d. d < t.docs) before → All (λ d. d < t.docs) (loads_after w before)
 loaded_there t (Open nav _ _ _ _ _ _ _ _ load) before s all = if_loaded t nav load before s all
 loaded_there t (Frame nav _ _ _ _ _ load) before s all = if_loaded t nav load before s all
 loaded_there t (Begin nav load) before s all = if_loaded t nav (Some load) before s all
@@ -66,7 +66,7 @@ unfolding tree_of
 loads_are log = refl
 
 pub loads_there : (log : List Entry) → AreAdmitted log → All (λ d. d < (tree_of log).docs) (tree_of log).loads
-loads_there log all = subst (λ (xs : List ℕ). All (λ d. d < (tree_of log).docs) xs) (sym (loads_are log)) (gathered_there (tree_of log) log (loads_stand log all))
+loads_there log all = subst (λ (xs : List ℕ). All (λ d. d < (tree_of log).docs) xs) (sym (loads_are log)) (gathered_there (tree_of log) log (tasks_stand log all))
 
 pub few_docs : (log : List Entry) → length log < 2 ^ 30 → (tree_of log).docs < 2 ^ 31
 few_docs log h = let few = (few_of log).docs in omega arith

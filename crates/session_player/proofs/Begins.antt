@@ -58,6 +58,7 @@ fresh_sound = record { closed = closed_at_start; registers = no_registers (tree_
 
 fresh_keeps : (s : Session) (r : ℕ) (log : List Entry) → Keeps s r log [] 0 fresh
 fresh_keeps s r log = record {
+  goes_on = refl;
   registers = sym (none_written s log);
   stores = sym (none_stored s log);
   sound = fresh_sound;
@@ -71,9 +72,10 @@ fresh_keeps s r log = record {
   run = none_yet s log;
 }
 
-pub begins_underway : (s : Session) (l : Ledger) (seats : List Seat) → l.log ≡ starts_of s → ((r : ℕ) → get_or l.told r 0 ≡ 0) → length l.told ≡ s.renderers → length seats ≡ s.renderers → AreFresh seats → length l.log ≤ 20000 → AreAdmitted l.log
+pub begins_underway : (s : Session) (l : Ledger) (seats : List Seat) → s.lose ≡ [] → l.log ≡ starts_of s → ((r : ℕ) → get_or l.told r 0 ≡ 0) → length l.told ≡ s.renderers → length seats ≡ s.renderers → AreFresh seats → length l.log ≤ 20000 → AreAdmitted l.log
     → IsUnderway s [] l seats
-begins_underway s l seats log told many count are_fresh few all = record {
+begins_underway s l seats lossless log told many count are_fresh few all = record {
+  lossless = lossless;
   admitted = all;
   played = tt;
   log = log ∙ sym (log_begins s);

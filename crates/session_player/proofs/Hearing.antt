@@ -15,12 +15,14 @@ use Rattle.single_agent.specs.declared.act.Act.{Act}
 use Rattle.single_agent.specs.declared.act.Act.TheVariants.{Task}
 use Rattle.single_agent.specs.declared.act.TaskKind.{TaskKind}
 use Rattle.single_agent.specs.declared.act.Running.{Running}
+use Rattle.single_agent.specs.declared.act.Point.TheVariants.{Script}
 use Rattle.single_agent.specs.NextTask.{next_task, task_entry}
-use Rattle.single_agent.specs.NextAct.{starts_script, kind_of}
+use Rattle.single_agent.specs.NextAct.{starts, kind_of}
 use Rattle.single_agent.specs.Turns.{HasRoom}
 use Rattle.single_agent.proofs.Admitted.{task_admitted}
 use Rattle.session_player.specs.declared.desk.Told.{Told}
 use Rattle.session_player.specs.Growing.{grow, grow_urls, AllFollow}
+use Rattle.session_player.specs.Quiet.{is_commit}
 use Rattle.session_player.specs.Serves.{Ledger, Tells}
 use Rattle.session_player.specs.declared.worker.Turn.TheVariants.{Acted, Idle}
 use Rattle.session_player.specs.Steps.{Holds, IsTied, HeardAll, TakeEnds}
@@ -63,10 +65,11 @@ pub admitted_more : (l m : Ledger) (r : ℕ) (what : What) → AreAdmitted l.log
 admitted_more l m r what all few next more = subst AreAdmitted (sym more) (task_admitted l.log r what all few next, all)
 
 -- the document whose script a task starts is there
-pub script_there : (log : List Entry) (r : ℕ) (what : What) (run : Running) → IsTrue (admits (tree_of log) (task_entry r what)) → starts_script what ≡ Some run → run.doc < (tree_of (task_entry r what ∷ log)).docs
-script_there log r (Commit nav doc begin) run h is =
+pub script_there : (log : List Entry) (r place : ℕ) (what : What) (run : Running) → IsTrue (admits (tree_of log) (task_entry r what)) → is_commit what ≡ true → starts place what ≡ Some run
+    → run.doc < (tree_of (task_entry r what ∷ log)).docs
+script_there log r place (Commit nav doc begin) run h commits is =
     let t = tree_of log in
-    let same : record { doc = doc; made = 0 } ≡ run = cc in
+    let same : record { doc = doc; point = Script 0 } ≡ run = cc in
     let last = both _ _ (what_admitted t (task_entry r (Commit nav doc begin)) h) in
     let four = both _ _ last.0 in
     let three = both _ (has t.docs doc) four.0 in
@@ -75,7 +78,7 @@ script_there log r (Commit nav doc begin) run h is =
     subst (λ (u : Tree). t.docs ≤ u.docs) (sym (tree_of_step (task_entry r (Commit nav doc begin)) log)) (docs_later t (task_entry r (Commit nav doc begin))) in
     let doc_is = ap (λ (q : Running). q.doc) same in
     omega arith
-script_there log r _ run h is = absurd cc
+script_there log r place _ run h commits is = absurd cc
 
 -- one act more
 pub task_more : (xs ys : List Act) (at n k place : ℕ) (kind : TaskKind) → ys ≡ xs ++ Task at kind place ∷ [] → at ≡ n → place ≡ k → reverse ys ≡ Task n kind k ∷ reverse xs
@@ -117,20 +120,22 @@ task_last r w l m what told tied log tells =
     front_last told.news.items (prefix (get_or l.told r 0) m.log) l.log (task_entry r what) (sym log ∙ tells.news) (base_short r w l m what tied log)
 
 -- what a task starts is there
-pub started_there : (r : ℕ) (w v : Holds) (l m : Ledger) (what : What) → IsTied r w l → HasRoom l.log → next_task l.log r ≡ Some what → m.log ≡ task_entry r what ∷ l.log → HeardAll r l v m
-    → (run : Running) → starts_script what ≡ Some run → run.doc < v.tree.docs
-started_there r w v l m what tied room next log all run starts =
-    let there = script_there l.log r what run (task_admitted l.log r what tied.admitted (omega (arith, room)) next) starts in
+pub started_there : (r place : ℕ) (w v : Holds) (l m : Ledger) (what : What) → IsTied r w l → HasRoom l.log → next_task l.log r ≡ Some what → is_commit what ≡ true → m.log ≡ task_entry r what ∷ l.log → HeardAll r l v m
+    → (run : Running) → starts place what ≡ Some run → run.doc < v.tree.docs
+started_there r place w v l m what tied room next commits log all run is =
+    let there = script_there l.log r place what run (task_admitted l.log r what tied.admitted (omega (arith, room)) next) commits is in
     subst (λ (t : Tree). run.doc < t.docs) (sym (all.tree ∙ ap tree_of log)) there
 
-pub took_task : (r : ℕ) (w v : Holds) (l m : Ledger) (what : What) (xs ys : List Act) (at place : ℕ) (kind : TaskKind) → HasRoom l.log → next_task l.log r ≡ Some what → m.log ≡ task_entry r what ∷ l.log → HeardAll r l v m
-    → w.acts ≡ reverse xs → v.acts ≡ reverse ys → ys ≡ xs ++ Task at kind place ∷ [] → at ≡ v.heard → place ≡ length l.log → kind ≡ kind_of what → v.run ≡ starts_script what → v.registers ≡ w.registers → v.stores ≡ w.stores → TakeEnds r w l Acted v m
-took_task r w v l m what xs ys at place kind room next log all old new pushed is_at is_place is_kind run registers stores =
+pub took_task : (r : ℕ) (w v : Holds) (l m : Ledger) (what : What) (xs ys : List Act) (at place : ℕ) (kind : TaskKind) → HasRoom l.log → next_task l.log r ≡ Some what → is_commit what ≡ true
+    → m.log ≡ task_entry r what ∷ l.log → HeardAll r l v m
+    → w.acts ≡ reverse xs → v.acts ≡ reverse ys → ys ≡ xs ++ Task at kind place ∷ [] → at ≡ v.heard → place ≡ length l.log → kind ≡ kind_of what → v.run ≡ starts (length l.log) what → v.registers ≡ w.registers → v.stores ≡ w.stores → TakeEnds r w l Acted v m
+took_task r w v l m what xs ys at place kind room next commits log all old new pushed is_at is_place is_kind run registers stores =
     let longer : length m.log ≡ length l.log + 1 = ap length log ∙ (omega arith) in (
       room,
       record {
         what = what;
         next = next;
+        commits = commits;
         acts = new ∙ task_more xs ys at (length l.log + 1) (length l.log) place kind pushed (is_at ∙ all.heard ∙ longer) is_place
             ∙ ap (λ k. Task (length l.log + 1) k (length l.log) ∷ reverse xs) is_kind ∙ ap (λ acts. Task (length l.log + 1) (kind_of what) (length l.log) ∷ acts) (sym old);
         run = run;

@@ -1,13 +1,14 @@
 -- What a worker holds keeps fitting the log and its acts: one lemma for each kind of step, and one for the steps of others.
 use Rattle.std.proofs.Common.{◌≡◌, ℕ, ◌+◌, ◌<◌, List, [], ◌∷◌, ◌++◌, length, Option, Some, None, refl, sym, ap, subst, ◌∙◌, arith, length-append}
 use Rattle.std.specs.Prelude.{Bool, true, false, nat_le, option_and_then, if◌then◌else◌}
-use Rattle.std.specs.Option.{option_map}
+use Rattle.std.specs.Option.{option_map, option_map_or}
 use Rattle.window_props.specs.declared.value.Value.{Value}
 use Rattle.window_props.specs.declared.platform.Object.{Object}
 use Rattle.window_props.specs.History.{Store}
 use Rattle.tree_log.specs.declared.entry.Entry.{Entry}
 use Rattle.tree_log.specs.declared.entry.What.{What}
-use Rattle.tree_log.specs.Log.{prefix}
+use Rattle.tree_log.specs.declared.entry.What.TheVariants.{Commit}
+use Rattle.tree_log.specs.Log.{entry_at, prefix}
 use Rattle.tree_log.specs.Tree.{Tree, tree_of}
 use Rattle.tree_log.specs.Urls.{url_of}
 use Rattle.tree_log.specs.Admits.{AreAdmitted}
@@ -17,9 +18,8 @@ use Rattle.single_agent.specs.declared.act.Act.{Act}
 use Rattle.single_agent.specs.declared.act.Act.TheVariants.{Step as StepAct, Task}
 use Rattle.single_agent.specs.declared.act.Answer.{Answer}
 use Rattle.single_agent.specs.declared.act.Answer.TheVariants as answer
-use Rattle.single_agent.specs.declared.act.Move.TheVariants.{Takes}
+use Rattle.single_agent.specs.declared.act.Move.TheVariants.{Asks, Takes, Stays}
 use Rattle.single_agent.specs.declared.act.Point.{Point}
-use Rattle.single_agent.specs.declared.act.Point.TheVariants.{Script}
 use Rattle.single_agent.specs.declared.act.Running.{Running}
 use Rattle.single_agent.specs.declared.outcome.Outcome.{Outcome}
 use Rattle.single_agent.specs.declared.request.Request.{Request}
@@ -28,16 +28,20 @@ use Rattle.single_agent.specs.Decision.{rules_of, exchange}
 use Rattle.single_agent.specs.StepAnswer.{Sight, perform, changed}
 use Rattle.single_agent.specs.declared.step.Step.{Step}
 use Rattle.single_agent.specs.NextTask.{next_task, task_entry}
-use Rattle.single_agent.specs.NextAct.{newest_length, Left, left_on, step_left, running, started_at, starts_script, one_more, op_of, registers, registers_after, is_seen_by, shown_to, document_of, shown_stores, sight_on, stores_after, stores, sight, move_by, move_of, next_move, kind_of, answer_of}
+use Rattle.single_agent.specs.Registers.{task_written}
+use Rattle.single_agent.specs.NextAct.{newest_length, is_lost, has_stopped, Left, left_on, step_left, running, started_at, starts, one_more, op_of, registers, registers_after, is_seen_by, shown_to, document_of, shown_stores, sight_on, stores_after, stores, sight, move_by, move_of, next_move, kind_of, answer_of}
 use Rattle.single_agent.proofs.Grown.{Within, newest_within, prefix_grown, running_grown, left_grown, registers_grown, stores_grown}
-use Rattle.single_agent.proofs.Mine.{mine_now, mine_grown, task_mine}
+use Rattle.single_agent.proofs.Legal.{act_kept}
+use Rattle.single_agent.proofs.Mine.{mine_now, mine_grown, commit_mine}
 use Rattle.tree_log.proofs.BlankLaws.{tree_of-blanked}
 use Rattle.agent_laws.specs.Belonging.{RegistersBelong, IsClosed}
 use Rattle.agent_laws.proofs.BlankedSteps.{sight_with, changed_same}
 use Rattle.agent_laws.proofs.KeptStores.{perform_in_group}
+use Rattle.session_player.specs.Quiet.{is_commit}
 use Rattle.session_player.specs.Serves.{Ledger}
 use Rattle.session_player.specs.Steps.{Holds, IsOwnRun, IsSound, ActsLocally, ActsByAsking, ActsByTask, IsIdle, sight_in, left_now, move_now, stores_then}
 use Rattle.session_player.specs.Underway.{FitsRun, Keeps}
+use Rattle.session_player.proofs.Quiet.{commit_writes}
 use Rattle.session_player.proofs.Sound.{left_there, held_group}
 use Rattle.session_player.proofs.Stepping.{no_takes}
 
@@ -56,7 +60,7 @@ left_is s r log acts told w k =
     ap (λ (t : Tree). option_and_then (left_on s t w.urls) w.run) k.tree ∙ ap (λ u. option_and_then (left_on s (tree_of (prefix told log)) u) w.run) k.urls
     ∙ left_fits s log acts told w.run k.run
 
--- a script with a step left has heard just to the newest act
+-- what has a step left has heard just to the newest act
 pub level : (s : Session) (log : List Entry) (acts : List Act) (told : ℕ) (run : Option Running) → FitsRun s log acts told run → (step_left s log acts ≡ None → ⊥) → told ≡ newest_length acts
 level s log acts told None fits some = absurd (some fits)
 level s log acts told (Some run) fits some = fits.0
@@ -117,11 +121,16 @@ perform_at s r log acts told w all k left h =
 move_at : (s : Session) (r : ℕ) (log : List Entry) (acts : List Act) (told : ℕ) (w : Holds) → AreAdmitted log → Keeps s r log acts told w → (left : Option Left) → step_left s log acts ≡ left
     → move_of (λ doc. sight_in w) left ≡ move_of (sight s log acts) left
 move_at s r log acts told w all k None e = refl
-move_at s r log acts told w all k (Some left) e = ap (move_by left.doc (Script left.made) (op_of left.step)) (perform_at s r log acts told w all k left (at_step s r log acts told w k left e))
+move_at s r log acts told w all k (Some left) e = ap (move_by left.doc left.point (op_of left.step)) (perform_at s r log acts told w all k left (at_step s r log acts told w k left e))
+
+-- what hasn't stopped goes on
+pub going_on : (s : Session) (log : List Entry) (acts : List Act) → has_stopped acts ≡ false → next_move s log acts ≡ move_of (sight s log acts) (step_left s log acts)
+unfolding next_move
+going_on s log acts h = ap (λ b. if b then Stays else move_of (sight s log acts) (step_left s log acts)) h
 
 pub move_is : (s : Session) (r : ℕ) (log : List Entry) (acts : List Act) (told : ℕ) (w : Holds) → AreAdmitted log → Keeps s r log acts told w → move_now s w ≡ next_move s log acts
-unfolding next_move
-move_is s r log acts told w all k = ap (move_of (λ doc. sight_in w)) (left_is s r log acts told w k) ∙ move_at s r log acts told w all k (step_left s log acts) refl
+move_is s r log acts told w all k =
+    ap (move_of (λ doc. sight_in w)) (left_is s r log acts told w k) ∙ move_at s r log acts told w all k (step_left s log acts) refl ∙ sym (going_on s log acts k.goes_on)
 
 -- the properties of objects after the step that is left
 stores_at : (s : Session) (r : ℕ) (log : List Entry) (acts : List Act) (told : ℕ) (w : Holds) → Keeps s r log acts told w → (left : Option Left) → step_left s log acts ≡ left
@@ -155,14 +164,13 @@ stores_task : (s : Session) (log : List Entry) (acts : List Act) (act : Act) (at
 unfolding stores
 stores_task s log acts act at place what e = ap (λ a. stores s log (a ∷ acts)) e
 
--- a move that is no task has a script that runs
+-- a move that is no task has a step left
 no_left : (s : Session) (log : List Entry) (acts : List Act) (left : Option Left) → move_of (sight s log acts) left ≡ Takes → left ≡ None
 no_left s log acts None h = refl
-no_left s log acts (Some l) h = absurd (no_takes l.doc (Script l.made) (op_of l.step) (perform (sight s log acts l.doc) l.doc l.step) h)
+no_left s log acts (Some l) h = absurd (no_takes l.doc l.point (op_of l.step) (perform (sight s log acts l.doc) l.doc l.step) h)
 
-pub none_left : (s : Session) (log : List Entry) (acts : List Act) → next_move s log acts ≡ Takes → step_left s log acts ≡ None
-unfolding next_move
-none_left s log acts h = no_left s log acts (step_left s log acts) h
+none_left : (s : Session) (log : List Entry) (acts : List Act) → has_stopped acts ≡ false → next_move s log acts ≡ Takes → step_left s log acts ≡ None
+none_left s log acts goes h = no_left s log acts (step_left s log acts) (sym (going_on s log acts goes) ∙ h)
 
 -- ONE LEMMA A KIND
 
@@ -182,9 +190,14 @@ registers_more : (s : Session) (log : List Entry) (acts : List Act) (at doc : �
 unfolding registers
 registers_more s log acts at doc point op given = refl
 
-registers_task : (s : Session) (log : List Entry) (acts : List Act) (act : Act) (at place : ℕ) (what : What) → act ≡ Task at (kind_of what) place → registers s log (act ∷ acts) ≡ registers s log acts
+-- a task writes what its message says
+registers_task : (s : Session) (log : List Entry) (acts : List Act) (e : Entry)
+    → registers s (e ∷ log) (Task (length log + 1) (kind_of e.what) (length log) ∷ acts) ≡ task_written (e ∷ log) e.what (registers s (e ∷ log) acts)
 unfolding registers
-registers_task s log acts act at place what e = ap (λ a. registers s log (a ∷ acts)) e
+registers_task s log acts e =
+    let before = registers s (e ∷ log) acts in
+    ap (λ (g : List Entry). option_map_or (λ (x : Entry). task_written g x.what before) (entry_at g (length log)) before) (prefix_whole (e ∷ log) (length log + 1) (omega arith))
+    ∙ ap (λ (o : Option Entry). option_map_or (λ (x : Entry). task_written (e ∷ log) x.what before) o before) (entry_newest e log)
 
 own_more : (r : ℕ) (t : Tree) (run : Option Running) → IsOwnRun r t run → IsOwnRun r t (option_map one_more run)
 own_more r t None h = h
@@ -196,6 +209,7 @@ kept_local s r log acts told doc point op outcome w v l m k sound some a =
     let act : Act = StepAct told doc point op (answer.Outcome outcome) in
     record {
       acts_are = a.acts ∙ ap (λ h. StepAct h doc point op (answer.Outcome outcome) ∷ w.acts) k.heard ∙ ap (λ xs. act ∷ xs) k.acts_are;
+      goes_on = refl;
       heard = a.heard ∙ k.heard;
       within = k.within;
       tree = a.tree ∙ k.tree;
@@ -219,27 +233,28 @@ own_grown r more log told None old all h = h
 own_grown r more log told (Some run) old all h = mine_grown r more log run.doc all (mine_now r told log run.doc old h)
 
 pub kept_asking : (s : Session) (r : ℕ) (log : List Entry) (acts : List Act) (told doc : ℕ) (point : Point) (op : OpName) (q : Request) (w v : Holds) (l m : Ledger) → Keeps s r log acts told w → IsSound v
-    → AreAdmitted log → AreAdmitted m.log → Within (length log) acts → l.log ≡ log → (step_left s log acts ≡ None → ⊥) → ActsByAsking s r doc point op q w l v m
+    → AreAdmitted log → AreAdmitted m.log → Within (length log) acts → l.log ≡ log → (step_left s log acts ≡ None → ⊥) → (a : ActsByAsking s r doc point op q w l v m)
     → Keeps s r ((exchange (rules_of s) log r q).entries ++ log)
-    (StepAct (length ((exchange (rules_of s) log r q).entries ++ log)) doc point op (answer_of op (exchange (rules_of s) log r q).outcome) ∷ acts)
+    (StepAct (length ((exchange (rules_of s) log r q).entries ++ log)) doc point op a.given ∷ acts)
     (length ((exchange (rules_of s) log r q).entries ++ log)) v
 kept_asking s r log acts told doc point op q w v l m k sound old all within same some a =
     let own : List Entry = (exchange (rules_of s) log r q).entries in
-    let given : Answer = answer_of op (exchange (rules_of s) log r q).outcome in
+    let given : Answer = a.given in
+    let gives : Some given ≡ answer_of op (exchange (rules_of s) log r q).outcome = a.gives ∙ ap (λ (g : List Entry). answer_of op (exchange (rules_of s) g r q).outcome) same in
     let n : ℕ = length (own ++ log) in
     let act : Act = StepAct n doc point op given in
     let grown : m.log ≡ own ++ log = a.log ∙ ap (λ (g : List Entry). (exchange (rules_of s) g r q).entries ++ g) same in
     let whole : prefix n (own ++ log) ≡ own ++ log = prefix_whole (own ++ log) n (omega arith) in
     record {
-      acts_are = a.acts ∙ ap (λ (g : List Entry). StepAct (length m.log) doc point op (answer_of op (exchange (rules_of s) g r q).outcome) ∷ w.acts) same
-          ∙ ap (λ (g : List Entry). StepAct (length g) doc point op given ∷ w.acts) grown ∙ ap (λ xs. act ∷ xs) k.acts_are;
+      acts_are = a.acts ∙ ap (λ (g : List Entry). StepAct (length g) doc point op given ∷ w.acts) grown ∙ ap (λ xs. act ∷ xs) k.acts_are;
+      goes_on = ap (λ k. is_lost (StepAct k doc point op given)) (length-append own log)
+          ∙ act_kept (rules_of s) r log acts (Asks doc point op q) (StepAct (length own + length log) doc point op given) own (refl, ap (option_map (StepAct (length own + length log) doc point op)) gives);
       heard = a.all.heard ∙ ap length grown;
       within = omega arith;
       tree = a.all.tree ∙ ap tree_of grown ∙ ap tree_of (sym whole);
       urls = a.all.urls ∙ ap url_of grown ∙ ap url_of (sym whole);
       newest = omega arith;
-      registers = a.registers ∙ ap (λ (g : List Entry). registers_after (left_now s w) (answer_of op (exchange (rules_of s) g r q).outcome) w.registers) same
-          ∙ ap (λ (o : Option Left). registers_after o given w.registers) (left_is s r log acts told w k)
+      registers = a.registers ∙ ap (λ (o : Option Left). registers_after o given w.registers) (left_is s r log acts told w k)
           ∙ ap (registers_after (step_left s log acts) given) k.registers
           ∙ sym (registers_more s (own ++ log) acts n doc point op given ∙ ap (λ (o : Option Left). registers_after o given (registers s (own ++ log) acts)) (left_grown s own log acts within)
           ∙ ap (registers_after (step_left s log acts) given) (registers_grown s own log acts within));
@@ -256,14 +271,15 @@ unfolding step_left
 task_fits s log acts at None e n = ap (option_and_then (left_on s (tree_of (prefix (newest_length acts) log)) (url_of (prefix (newest_length acts) log)))) e
 task_fits s log acts at (Some run) e n = (sym n, e)
 
-started_here : (log : List Entry) (acts : List Act) (e : Entry) → running (e ∷ log) (Task (length log + 1) (kind_of e.what) (length log) ∷ acts) ≡ starts_script e.what
+started_here : (log : List Entry) (acts : List Act) (e : Entry) → running (e ∷ log) (Task (length log + 1) (kind_of e.what) (length log) ∷ acts) ≡ starts (length log) e.what
 unfolding running
 started_here log acts e =
-    ap (λ (g : List Entry). started_at g (length log)) (prefix_whole (e ∷ log) (length log + 1) (omega arith)) ∙ ap (option_and_then (λ (x : Entry). starts_script x.what)) (entry_newest e log)
+    ap (λ (g : List Entry). started_at g (length log)) (prefix_whole (e ∷ log) (length log + 1) (omega arith)) ∙ ap (option_and_then (λ (x : Entry). starts (length log) x.what)) (entry_newest e log)
 
-own_started : (r : ℕ) (log : List Entry) (what : What) (run : Option Running) → AreAdmitted log → next_task log r ≡ Some what → starts_script what ≡ run → IsOwnRun r (tree_of (task_entry r what ∷ log)) run
-own_started r log what None all next e = tt
-own_started r log what (Some run) all next e = task_mine r log what run all next e
+own_started : (r place : ℕ) (log : List Entry) (what : What) (run : Option Running) → AreAdmitted log → next_task log r ≡ Some what → is_commit what ≡ true → starts place what ≡ run
+    → IsOwnRun r (tree_of (task_entry r what ∷ log)) run
+own_started r place log (Commit nav doc begin) run all next commits e = subst (IsOwnRun r (tree_of (task_entry r (Commit nav doc begin) ∷ log))) e (commit_mine r log nav doc begin all next)
+own_started r place log _ run all next commits e = absurd cc
 
 pub kept_task : (s : Session) (r : ℕ) (log : List Entry) (acts : List Act) (told : ℕ) (w v : Holds) (l m : Ledger) → Keeps s r log acts told w → IsSound v → AreAdmitted log → Within (length log) acts → l.log ≡ log
     → (a : ActsByTask r w l v m) → Keeps s r (task_entry r a.what ∷ log) (Task (length log + 1) (kind_of a.what) (length log) ∷ acts) (length log + 1) v
@@ -272,18 +288,20 @@ kept_task s r log acts told w v l m k sound old within same a =
     let grown : m.log ≡ e ∷ log = a.log ∙ ap (λ g. e ∷ g) same in
     let long : length m.log ≡ length log + 1 = ap length grown ∙ (omega arith) in
     let whole : prefix (length log + 1) (e ∷ log) ≡ e ∷ log = prefix_whole (e ∷ log) (length log + 1) (omega arith) in
+    let run_is : v.run ≡ starts (length log) a.what = a.run ∙ ap (λ (g : List Entry). starts (length g) a.what) same in
     record {
       acts_are = a.acts ∙ ap (λ n. Task (n + 1) (kind_of a.what) n ∷ w.acts) (ap length same) ∙ ap (λ xs. Task (length log + 1) (kind_of a.what) (length log) ∷ xs) k.acts_are;
+      goes_on = refl;
       heard = a.all.heard ∙ long;
       within = omega arith;
       tree = a.all.tree ∙ ap tree_of grown ∙ ap tree_of (sym whole);
       urls = a.all.urls ∙ ap url_of grown ∙ ap url_of (sym whole);
       newest = omega arith;
-      registers = a.registers ∙ k.registers ∙ sym (registers_task s (e ∷ log) acts (Task (length log + 1) (kind_of a.what) (length log)) (length log + 1) (length log) a.what refl ∙ registers_grown s (e ∷ []) log acts within);
+      registers = a.registers ∙ k.registers ∙ sym (registers_task s log acts e ∙ commit_writes (e ∷ log) a.what (registers s (e ∷ log) acts) a.commits ∙ registers_grown s (e ∷ []) log acts within);
       stores = a.stores ∙ k.stores ∙ sym (stores_task s (e ∷ log) acts (Task (length log + 1) (kind_of a.what) (length log)) (length log + 1) (length log) a.what refl ∙ stores_grown s (e ∷ []) log acts within);
       sound = sound;
-      own = subst (λ (t : Tree). IsOwnRun r t v.run) (sym (a.all.tree ∙ ap tree_of grown)) (own_started r log a.what v.run old (subst (λ (g : List Entry). next_task g r ≡ Some a.what) same a.next) (sym a.run));
-      run = task_fits s (e ∷ log) (Task (length log + 1) (kind_of a.what) (length log) ∷ acts) (length log + 1) v.run (started_here log acts e ∙ sym a.run) refl;
+      own = subst (λ (t : Tree). IsOwnRun r t v.run) (sym (a.all.tree ∙ ap tree_of grown)) (own_started r (length log) log a.what v.run old (subst (λ (g : List Entry). next_task g r ≡ Some a.what) same a.next) a.commits (sym run_is));
+      run = task_fits s (e ∷ log) (Task (length log + 1) (kind_of a.what) (length log) ∷ acts) (length log + 1) v.run (started_here log acts e ∙ sym run_is) refl;
     }
 
 pub kept_idle : (s : Session) (r : ℕ) (log : List Entry) (acts : List Act) (told : ℕ) (w v : Holds) (l m : Ledger) → Keeps s r log acts told w → IsSound v → Within (length log) acts → l.log ≡ log → next_move s log acts ≡ Takes
@@ -293,6 +311,7 @@ kept_idle s r log acts told w v l m k sound within same takes a =
     let whole : prefix (length log) log ≡ log = prefix_whole log (length log) (omega arith) in
     record {
       acts_are = a.acts ∙ k.acts_are;
+      goes_on = k.goes_on;
       heard = a.all.heard ∙ ap length grown;
       within = omega arith;
       tree = a.all.tree ∙ ap tree_of grown ∙ ap tree_of (sym whole);
@@ -302,7 +321,7 @@ kept_idle s r log acts told w v l m k sound within same takes a =
       stores = a.stores ∙ k.stores;
       sound = sound;
       own = subst (IsOwnRun r v.tree) (sym a.run) tt;
-      run = subst (FitsRun s log acts (length log)) (sym a.run) (none_left s log acts takes);
+      run = subst (FitsRun s log acts (length log)) (sym a.run) (none_left s log acts k.goes_on takes);
     }
 
 -- another renderer's turn
@@ -313,6 +332,7 @@ run_grown s more log acts told (Some run) within fits = (fits.0, running_grown m
 pub kept_other : (s : Session) (r : ℕ) (more log : List Entry) (acts : List Act) (told : ℕ) (w : Holds) → Keeps s r log acts told w → Within (length log) acts → Keeps s r (more ++ log) acts told w
 kept_other s r more log acts told w k within = record {
   acts_are = k.acts_are;
+  goes_on = k.goes_on;
   heard = k.heard;
   within = omega (arith, k.within, length-append more log);
   tree = k.tree ∙ ap tree_of (sym (prefix_more more log told k.within));

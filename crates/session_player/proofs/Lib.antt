@@ -3,6 +3,7 @@ pub mod Leaves
 pub mod There
 pub mod Results
 pub mod Asking
+pub mod Quiet
 pub mod Entries
 pub mod Growth
 pub mod Few

@@ -9,16 +9,13 @@ use Rattle.std.proofs.Math.Nat.{mul-mod_left}
 use Rattle.tree_log.specs.declared.entry.Entry.{Entry}
 use Rattle.single_agent.specs.declared.session.Session.{Session}
 use Rattle.single_agent.specs.declared.act.Act.{Act}
-use Rattle.single_agent.specs.declared.act.Move.TheVariants.{Takes}
 use Rattle.single_agent.specs.declared.act.Ending.TheVariants as ending
-use Rattle.single_agent.specs.NextTask.{next_task}
-use Rattle.single_agent.specs.NextAct.{step_left, next_move}
-use Rattle.single_agent.specs.Turns.{Turned, has_act, is_some_act, next_renderer, next_in_rounds, log_of, record_of, told_of, with_act, Plays, IsTurn, Rests}
+use Rattle.single_agent.specs.Turns.{Turned, has_act, is_some_act, next_renderer, next_in_rounds, log_of, record_of, told_of, with_act, HasNothing, Does, Plays, IsTurn, Rests}
 use Rattle.session_player.specs.declared.worker.Turn.TheVariants.{Acted, Idle}
 use Rattle.session_player.specs.declared.playing.Round.TheVariants as round
 use Rattle.session_player.specs.Serves.{Ledger}
 use Rattle.session_player.specs.Underway.{Seat, IsUnderway, acts_left, TurnEnds, AtRound, RoundEnds}
-use Rattle.session_player.proofs.Keeping.{none_left}
+use Rattle.session_player.proofs.Turning.{loses_none}
 
 lt_true : (a b : ℕ) → a < b → nat_lt a b ≡ true
 lt_true a b h = grind (arith, nat_tests)
@@ -81,14 +78,15 @@ flag_more : (number : ℕ) (t : Turned) (turns : List Turned) (b a : Bool) → h
 flag_more number t turns b a p q =
     ap (λ k. list_any has_act (take k (t ∷ turns))) (add-one number) ∙ ap (λ x. x || list_any has_act (take number turns)) p ∙ ap (λ x. b || x) q
 
-idle_plays : (s : Session) (r : ℕ) (log : List Entry) (acts : List Act) (told : ℕ) (act : Option Act) (own : List Entry) → Plays s r log acts told act own → is_some_act act ≡ false
-    → (next_move s log acts ≡ Takes) × (next_task log r ≡ None) × (own ≡ []) × (act ≡ None)
-idle_plays s r log acts told None own h e = (h.0, h.1, h.2, refl)
-idle_plays s r log acts told (Some a) own h e = absurd cc
+idle_does : (s : Session) (r : ℕ) (log : List Entry) (acts : List Act) (told : ℕ) (act : Option Act) (own : List Entry) → Does s r log acts told act own → is_some_act act ≡ false
+    → HasNothing s r log acts × (own ≡ []) × (act ≡ None)
+idle_does s r log acts told None own h e = (h.0, h.1, refl)
+idle_does s r log acts told (Some a) own h e = absurd cc
 
-idle_turn : (s : Session) (turns : List Turned) (t : Turned) → IsTurn s turns t → has_act t ≡ false
-    → (next_move s (log_of s turns) (record_of t.renderer turns) ≡ Takes) × (next_task (log_of s turns) t.renderer ≡ None) × (t.own ≡ []) × (t.act ≡ None)
-idle_turn s turns t h e = idle_plays s t.renderer (log_of s turns) (record_of t.renderer turns) (told_of s t.renderer turns) t.act t.own h.plays e
+idle_turn : (s : Session) (turns : List Turned) (t : Turned) → s.lose ≡ [] → IsTurn s turns t → has_act t ≡ false → Rests s turns t.renderer × (t.own ≡ []) × (t.act ≡ None)
+idle_turn s turns t none h e =
+    idle_does s t.renderer (log_of s turns) (record_of t.renderer turns) (told_of s t.renderer turns) t.act t.own
+    (subst (λ b. Plays b s t.renderer (log_of s turns) (record_of t.renderer turns) (told_of s t.renderer turns) t.act t.own) (loses_none s turns t.renderer none) h.plays) e
 
 same_record : (r : ℕ) (t : Turned) (turns : List Turned) → t.act ≡ None → record_of r turns ≡ record_of r (t ∷ turns)
 unfolding record_of
@@ -100,11 +98,7 @@ same_log s t turns e = sym (ap (λ (o : List Entry). o ++ log_of s turns) e)
 
 still_rests : (s : Session) (turns : List Turned) (t : Turned) (r : ℕ) → t.own ≡ [] → t.act ≡ None → Rests s turns r → Rests s (t ∷ turns) r
 still_rests s turns t r own act h =
-    let log = same_log s t turns own in
-    let acts = same_record r t turns act in (
-      subst (λ (g : List Entry). next_task g r ≡ None) log h.0,
-      subst (λ (g : List Entry). step_left s g (record_of r (t ∷ turns)) ≡ None) log (subst (λ (a : List Act). step_left s (log_of s turns) a ≡ None) acts h.1),
-    )
+    subst (λ (g : List Entry). HasNothing s r g (record_of r (t ∷ turns))) (same_log s t turns own) (subst (HasNothing s r (log_of s turns)) (same_record r t turns act) h)
 
 pub round_begins : (s : Session) (turns : List Turned) (l : Ledger) (seats : List Seat) → IsUnderway s turns l seats → AtRound s turns → InRound s seats 0 false l seats
 round_begins s turns l seats u at = record {
@@ -149,12 +143,12 @@ round_idle s old number acted l m seats seats' h e =
       least = omega (arith, e.4, h.least);
       less = λ q. omega (arith, e.4, h.less q);
       rest = λ q r lt.
-          let idle = idle_turn s h.turns e.0 e.3.played.0 e.2 in
-          still_rests s h.turns e.0 r idle.2 idle.3 (elim (cases_lt r number) [
+          let idle = idle_turn s h.turns e.0 e.3.lossless e.3.played.0 e.2 in
+          still_rests s h.turns e.0 r idle.1 idle.2 (elim (cases_lt r number) [
             | inl below ↦ h.rest q r below
             | inr above ↦
                 let same : e.0.renderer ≡ r = omega (arith, e.1) in
-                subst (Rests s h.turns) same (idle.1, none_left s (log_of s h.turns) (record_of e.0.renderer h.turns) idle.0)
+                subst (Rests s h.turns) same idle.0
           ]);
     }
 

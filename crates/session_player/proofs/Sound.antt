@@ -13,12 +13,12 @@ use Rattle.tree_log.specs.Urls.{url_of}
 use Rattle.tree_log.specs.Admits.{AreAdmitted}
 use Rattle.single_agent.specs.declared.session.Session.{Session}
 use Rattle.single_agent.specs.declared.step.Step.{Step}
+use Rattle.single_agent.specs.declared.act.Answer.{Answer as AnswerOf}
 use Rattle.single_agent.specs.declared.act.Answer.TheVariants as answer
 use Rattle.single_agent.specs.declared.act.Performed.{Performed}
 use Rattle.single_agent.specs.declared.act.Performed.TheVariants.{Answer, Ask}
 use Rattle.single_agent.specs.declared.act.Move.TheVariants.{Answers, Asks}
 use Rattle.single_agent.specs.declared.act.Point.{Point}
-use Rattle.single_agent.specs.declared.act.Point.TheVariants.{Script}
 use Rattle.single_agent.specs.declared.act.Running.{Running}
 use Rattle.single_agent.specs.declared.outcome.Outcome.{Outcome}
 use Rattle.single_agent.specs.declared.outcome.Outcome.TheVariants as outcome
@@ -29,12 +29,13 @@ use Rattle.single_agent.specs.declared.request.ReplyOutcome.{ReplyOutcome}
 use Rattle.single_agent.specs.declared.request.ReplyOutcome.TheVariants as reply
 use Rattle.single_agent.specs.declared.step.OpName.{OpName}
 use Rattle.single_agent.specs.declared.step.OpName.TheVariants as op
-use Rattle.single_agent.specs.Session.{script_of}
+use Rattle.single_agent.specs.Session.{steps_of}
 use Rattle.single_agent.specs.Registers.{written, to_of, value_in, written_to}
+use Rattle.single_agent.specs.Values.{null}
 use Rattle.single_agent.specs.NextTask.{next_task, task_entry}
 use Rattle.single_agent.specs.Decision.{Rules, rules_of, Decision, task_decision, exchange, asker_of}
 use Rattle.single_agent.specs.StepAnswer.{Sight, perform}
-use Rattle.single_agent.specs.NextAct.{Left, left_at, left_on, registers_after, done_of, answer_of, op_of, move_by, move_of}
+use Rattle.single_agent.specs.NextAct.{Left, made_before, left_at, left_on, registers_after, rule_of, done_of, answer_of, op_of, move_by, move_of}
 use Rattle.single_agent.proofs.Made.{next_gives}
 use Rattle.agent_laws.specs.Belonging.{Belongs, RegistersBelong, StoresBelong, IsClosed}
 use Rattle.agent_laws.specs.Sights.{HoldsGroup}
@@ -56,8 +57,8 @@ left_doc s t urls run left h = by (is_active t run.doc) h where
   at None e = absurd cc
   at (Some step) e = let same : left_at run step ≡ left = cc in ap (λ (l : Left). l.doc) same
 
-  by : (b : Bool) → (if b then option_map (left_at run) (slice_get (script_of s t urls run.doc) run.made) else None) ≡ Some left → run.doc ≡ left.doc
-  by true e = at (slice_get (script_of s t urls run.doc) run.made) e
+  by : (b : Bool) → (if b then option_map (left_at run) (slice_get (steps_of s t urls run.doc run.point) (made_before run.point)) else None) ≡ Some left → run.doc ≡ left.doc
+  by true e = at (slice_get (steps_of s t urls run.doc run.point) (made_before run.point)) e
   by false e = absurd cc
 
 doc_there : (s : Session) (r : ℕ) (t : Tree) (urls : ℕ → List ℕ) (run : Option Running) (left : Left) → IsOwnRun r t run → option_and_then (left_on s t urls) run ≡ Some left → left.doc < t.docs
@@ -166,29 +167,34 @@ done_belongs : (t : Tree) (d : ℕ) (o : OpName) → Belongs t d (value_in (done
 done_belongs t d op.Set = tt
 done_belongs t d _ = tt
 
-replied : (t : Tree) (d : ℕ) (o : OpName) (q : ReplyOutcome) → ((nav : ℕ) → q ≡ reply.Made nav → Belongs t d (value.Window nav)) → Belongs t d (value_in (answer_of o q))
-replied t d o reply.Done made = done_belongs t d o
-replied t d o (reply.Made nav) made = made nav refl
-replied t d o _ made = tt
+replied : (t : Tree) (d : ℕ) (o : OpName) (q : ReplyOutcome) (given : AnswerOf) → Some given ≡ answer_of o q → ((nav : ℕ) → q ≡ reply.Made nav → Belongs t d (value.Window nav)) → Belongs t d (value_in given)
+replied t d o reply.Done given e made = let same : done_of o ≡ given = cc in subst (λ (a : AnswerOf). Belongs t d (value_in a)) same (done_belongs t d o)
+replied t d o (reply.Security n) given e made =
+    let same : answer.Outcome (outcome.Security (rule_of n)) ≡ given = cc in subst (λ (a : AnswerOf). Belongs t d (value_in a)) same tt
+replied t d o reply.Null given e made = let same : answer.Outcome (outcome.Value null) ≡ given = cc in subst (λ (a : AnswerOf). Belongs t d (value_in a)) same tt
+replied t d o (reply.Made nav) given e made =
+    let same : answer.Outcome (outcome.Value (value.Window nav)) ≡ given = cc in subst (λ (a : AnswerOf). Belongs t d (value_in a)) same (made nav refl)
+replied t d o (reply.Unloaded place) given e made = let same : answer.Unloaded ≡ given = cc in subst (λ (a : AnswerOf). Belongs t d (value_in a)) same tt
+replied t d o _ given e made = absurd cc
 
-pub reply_belongs : (rules : Rules) (log : List Entry) (r : ℕ) (q : Request) (d : ℕ) (o : OpName) → AreAdmitted log → length log < 2 ^ 30 → IsClosed (tree_of log) → asker_of q ≡ d
-    → Belongs (tree_of ((exchange rules log r q).entries ++ log)) d (value_in (answer_of o (exchange rules log r q).outcome))
-reply_belongs rules log r q d o all short closed asker =
+pub reply_belongs : (rules : Rules) (log : List Entry) (r : ℕ) (q : Request) (d : ℕ) (o : OpName) (given : AnswerOf) → AreAdmitted log → length log < 2 ^ 30 → IsClosed (tree_of log) → asker_of q ≡ d
+    → Some given ≡ answer_of o (exchange rules log r q).outcome → Belongs (tree_of ((exchange rules log r q).entries ++ log)) d (value_in given)
+reply_belongs rules log r q d o given all short closed asker gives =
     let t : Tree = tree_of ((exchange rules log r q).entries ++ log) in
-    replied t d o (exchange rules log r q).outcome (λ nav is. subst (λ x. Belongs t x (value.Window nav)) asker (made_belongs rules log r q nav all short closed is))
+    replied t d o (exchange rules log r q).outcome given gives (λ nav is. subst (λ x. Belongs t x (value.Window nav)) asker (made_belongs rules log r q nav all short closed is))
 
-pub sound_asking : (rules : Rules) (log : List Entry) (k r : ℕ) (q : Request) (w v : Holds) (left : Left) (o : OpName) → AreAdmitted log → length log < 2 ^ 30 → IsClosed (tree_of log)
+pub sound_asking : (rules : Rules) (log : List Entry) (k r : ℕ) (q : Request) (w v : Holds) (left : Left) (o : OpName) (given : AnswerOf) → AreAdmitted log → length log < 2 ^ 30 → IsClosed (tree_of log)
     → AreAdmitted ((exchange rules log r q).entries ++ log) → asker_of q ≡ left.doc → IsSound w → w.tree ≡ tree_of (prefix k log) → v.tree ≡ tree_of ((exchange rules log r q).entries ++ log)
-    → v.registers ≡ registers_after (Some left) (answer_of o (exchange rules log r q).outcome) w.registers → v.stores ≡ w.stores → IsSound v
-sound_asking rules log k r q w v left o old short closed all asker sound at tree registers stores =
+    → Some given ≡ answer_of o (exchange rules log r q).outcome → v.registers ≡ registers_after (Some left) given w.registers → v.stores ≡ w.stores → IsSound v
+sound_asking rules log k r q w v left o given old short closed all asker sound at tree gives registers stores =
     let own : List Entry = (exchange rules log r q).entries in
     let t : Tree = tree_of (own ++ log) in
     record {
       closed = subst IsClosed (sym tree) (closed_exchange rules log r q old short closed);
       registers = subst (λ (x : Tree). RegistersBelong x v.registers) (sym tree) (subst (RegistersBelong t) (sym registers)
-          (to_belongs t w.registers left.doc (to_of left.step) (value_in (answer_of o (exchange rules log r q).outcome))
+          (to_belongs t w.registers left.doc (to_of left.step) (value_in given)
           (registers_heard own log k w.registers all (subst (λ (x : Tree). RegistersBelong x w.registers) at sound.registers))
-          (reply_belongs rules log r q left.doc o old short closed asker)));
+          (reply_belongs rules log r q left.doc o given old short closed asker gives)));
       stores = subst (λ (x : Tree). StoresBelong x v.stores) (sym tree) (subst (StoresBelong t) (sym stores) (stores_heard own log k w.stores all (subst (λ (x : Tree). StoresBelong x w.stores) at sound.stores)));
     }
 
@@ -198,7 +204,7 @@ answers_sound : (s : Session) (r : ℕ) (w v : Holds) (l m : Ledger) → IsOwnRu
     → move_of (λ d. sight_in w) left ≡ Answers doc point o outcome → ActsLocally s doc point o outcome w l v m → IsSound v
 answers_sound s r w v l m own sound doc point o outcome None is h a = absurd cc
 answers_sound s r w v l m own sound doc point o outcome (Some left) is h a = by (perform (sight_in w) left.doc left.step) refl h where
-  by : (p : Performed) → perform (sight_in w) left.doc left.step ≡ p → move_by left.doc (Script left.made) (op_of left.step) p ≡ Answers doc point o outcome → IsSound v
+  by : (p : Performed) → perform (sight_in w) left.doc left.step ≡ p → move_by left.doc left.point (op_of left.step) p ≡ Answers doc point o outcome → IsSound v
   by (Answer given) e moved =
       let same : given ≡ outcome = cc in
       sound_local w v left outcome sound (left_there s r w left own is) (e ∙ ap Answer same) a.tree
@@ -216,10 +222,10 @@ asks_sound : (s : Session) (r k : ℕ) (w v : Holds) (l m : Ledger) → IsOwnRun
 asks_sound s r k w v l m own sound doc point o q None is h a old short closed all at = absurd cc
 asks_sound s r k w v l m own sound doc point o q (Some left) is h a old short closed all at =
     let asker : asker_of q ≡ left.doc = asks_by (perform (sight_in w) left.doc left.step) refl h in
-    sound_asking (rules_of s) l.log k r q w v left o old short closed all asker sound at (a.all.tree ∙ ap tree_of a.log)
-    (a.registers ∙ ap (λ (x : Option Left). registers_after x (answer_of o (exchange (rules_of s) l.log r q).outcome) w.registers) is) a.stores
+    sound_asking (rules_of s) l.log k r q w v left o a.given old short closed all asker sound at (a.all.tree ∙ ap tree_of a.log) a.gives
+    (a.registers ∙ ap (λ (x : Option Left). registers_after x a.given w.registers) is) a.stores
   where
-    asks_by : (p : Performed) → perform (sight_in w) left.doc left.step ≡ p → move_by left.doc (Script left.made) (op_of left.step) p ≡ Asks doc point o q → asker_of q ≡ left.doc
+    asks_by : (p : Performed) → perform (sight_in w) left.doc left.step ≡ p → move_by left.doc left.point (op_of left.step) p ≡ Asks doc point o q → asker_of q ≡ left.doc
     asks_by (Answer x) e moved = absurd cc
     asks_by (Ask asked) e moved =
         let same : asked ≡ q = cc in

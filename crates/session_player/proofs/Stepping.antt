@@ -1,5 +1,5 @@
 -- What kind of step it was.
-use Rattle.std.proofs.Common.{◌≡◌, ℕ, ◌<◌, length, Option, Some, None, true, refl, sym, ap, subst, ◌∙◌}
+use Rattle.std.proofs.Common.{◌≡◌, ℕ, ◌+◌, ◌<◌, length, Option, Some, None, true, refl, sym, ap, subst, ◌∙◌}
 use Rattle.std.specs.Prelude.{IsTrue}
 use Rattle.tree_log.specs.Tree.{tree_of}
 use Rattle.single_agent.specs.declared.session.Session.{Session}
@@ -9,13 +9,13 @@ use Rattle.single_agent.specs.declared.act.Move.TheVariants.{Answers, Asks, Take
 use Rattle.single_agent.specs.declared.act.Performed.{Performed}
 use Rattle.single_agent.specs.declared.act.Performed.TheVariants.{Answer, Ask}
 use Rattle.single_agent.specs.declared.act.Point.{Point}
-use Rattle.single_agent.specs.declared.act.Point.TheVariants.{Script}
+use Rattle.single_agent.specs.declared.act.Point.TheVariants.{Script, Handler}
 use Rattle.single_agent.specs.declared.outcome.Outcome.{Outcome}
 use Rattle.single_agent.specs.declared.request.Request.{Request}
 use Rattle.single_agent.specs.declared.step.OpName.{OpName}
 use Rattle.single_agent.specs.Decision.{asker_of}
 use Rattle.single_agent.specs.StepAnswer.{Sight, perform}
-use Rattle.single_agent.specs.NextAct.{Left, move_by, move_of, op_of}
+use Rattle.single_agent.specs.NextAct.{Left, made_before, next_point, move_by, move_of, op_of}
 use Rattle.single_agent.specs.Turns.{most_acts, HasRoom, needs_room}
 use Rattle.agent_laws.proofs.Asked.{IsAskedBy, asked_by}
 use Rattle.script_steps.specs.Built.{is_built, is_made}
@@ -24,6 +24,11 @@ use Rattle.session_player.specs.declared.worker.Turn.{Turn}
 use Rattle.session_player.specs.declared.worker.Turn.TheVariants.{Acted, Idle, Full, ActsFull, BadReply}
 use Rattle.session_player.specs.Serves.{Ledger}
 use Rattle.session_player.specs.Steps.{Holds, ActsLocally, ActsBy, TakeEnds, AskEnds, StepsTo, left_now, move_now, sight_in}
+
+-- one step more was made at the next point
+pub made_next : (point : Point) → made_before (next_point point) ≡ made_before point + 1
+made_next (Script made) = refl
+made_next (Handler place made) = refl
 
 -- a step is no task
 pub no_takes : (doc : ℕ) (point : Point) (op : OpName) (p : Performed) → move_by doc point op p ≡ Takes → ⊥
@@ -50,18 +55,18 @@ module _ (s : Session) (r : ℕ) (w v : Holds) (l m : Ledger) (fewer : length w.
       )
 
   moved : (left : Left) (p : Performed) → perform (sight_in w) left.doc left.step ≡ p
-      → move_of (λ doc. sight_in w) (Some left) ≡ move_by left.doc (Script left.made) (op_of left.step) p
-  moved left p e = ap (move_by left.doc (Script left.made) (op_of left.step)) e
+      → move_of (λ doc. sight_in w) (Some left) ≡ move_by left.doc left.point (op_of left.step) p
+  moved left p e = ap (move_by left.doc left.point (op_of left.step)) e
 
   pub answered : (left : Left) (o : Outcome) → left_now s w ≡ Some left → perform (sight_in w) left.doc left.step ≡ Answer o
-      → ActsLocally s left.doc (Script left.made) (op_of left.step) o w l v m → StepsTo s r w l Acted v m
-  answered left o is e acts = acted (Some left) (Answers left.doc (Script left.made) (op_of left.step) o) is (moved left (Answer o) e) (λ n. absurd cc) acts
+      → ActsLocally s left.doc left.point (op_of left.step) o w l v m → StepsTo s r w l Acted v m
+  answered left o is e acts = acted (Some left) (Answers left.doc left.point (op_of left.step) o) is (moved left (Answer o) e) (λ n. absurd cc) acts
 
   pub asked : (turn : Turn) (left : Left) (q : Request) → left_now s w ≡ Some left → perform (sight_in w) left.doc left.step ≡ Ask q
-      → AskEnds s r left.doc (Script left.made) (op_of left.step) q w l turn v m → StepsTo s r w l turn v m
-  asked Acted left q is e ends = acted (Some left) (Asks left.doc (Script left.made) (op_of left.step) q) is (moved left (Ask q) e) ends.0 ends.1
+      → AskEnds s r left.doc left.point (op_of left.step) q w l turn v m → StepsTo s r w l turn v m
+  asked Acted left q is e ends = acted (Some left) (Asks left.doc left.point (op_of left.step) q) is (moved left (Ask q) e) ends.0 ends.1
   asked Full left q is e ends =
-      let same : move_now s w ≡ Asks left.doc (Script left.made) (op_of left.step) q = ap (move_of (λ doc. sight_in w)) is ∙ moved left (Ask q) e in
+      let same : move_now s w ≡ Asks left.doc left.point (op_of left.step) q = ap (move_of (λ doc. sight_in w)) is ∙ moved left (Ask q) e in
       (fewer, subst (λ (k : Move). IsTrue (needs_room (tree_of l.log) r k)) (sym same) ends.0, ends.1, ends.2, ends.3)
   asked Idle left q is e ends = absurd ends
   asked ActsFull left q is e ends = absurd ends

@@ -1,28 +1,30 @@
 -- What a turn leaves.
-use Rattle.std.proofs.Common.{◌≡◌, ◌≢◌, ℕ, zero, suc, ◌+◌, ◌-◌, ◌^◌, ◌<◌, ◌≤◌, List, [], ◌∷◌, ◌++◌, length, get_or, Option, Some, None, refl, sym, ap, subst, ◌∙◌, arith, inl, inr, length-append}
-use Rattle.std.specs.Prelude.{IsTrue, slice_get, slice_set, if◌then◌else◌}
+use Rattle.std.proofs.Common.{◌≡◌, ◌≢◌, ℕ, zero, suc, ◌+◌, ◌-◌, ◌^◌, ◌<◌, ◌≤◌, List, [], ◌∷◌, ◌++◌, length, get_or, Option, Some, None, refl, sym, ap, subst, ◌∙◌, arith, inl, inr, length-append, eq-eqb}
+use Rattle.std.specs.Prelude.{Bool, true, false, not, ◌&&◌, ◌==◌, IsTrue, find, slice_get, slice_set, if◌then◌else◌}
+use Rattle.std.specs.Option.{option_map}
 use Rattle.std.proofs.lemmas.Bool.Decides.{eqb_tells}
 use Rattle.tree_log.specs.declared.entry.Entry.{Entry}
 use Rattle.tree_log.specs.Log.{prefix}
 use Rattle.tree_log.specs.Tree.{tree_of}
 use Rattle.tree_log.specs.Urls.{url_of}
 use Rattle.single_agent.specs.declared.session.Session.{Session}
+use Rattle.single_agent.specs.declared.session.Lose.{Lose}
 use Rattle.single_agent.specs.declared.act.Act.{Act}
 use Rattle.single_agent.specs.declared.act.Act.TheVariants.{Step as StepAct, Task}
 use Rattle.single_agent.specs.declared.act.Answer.TheVariants as answer
 use Rattle.single_agent.specs.declared.act.Move.{Move}
-use Rattle.single_agent.specs.declared.act.Move.TheVariants.{Answers, Asks, Takes}
+use Rattle.single_agent.specs.declared.act.Move.TheVariants.{Answers, Asks, Takes, Stays}
 use Rattle.single_agent.specs.NextTask.{task_entry}
 use Rattle.tree_log.specs.Admits.{AreAdmitted}
 use Rattle.single_agent.specs.Decision.{rules_of, exchange}
-use Rattle.single_agent.specs.NextAct.{newest_length, step_left, sight, move_of, next_move, kind_of, answer_of, MovesTo, IsActOn}
+use Rattle.single_agent.specs.NextAct.{newest_length, has_stopped, step_left, sight, move_of, next_move, kind_of, MovesTo, IsActOn}
 use Rattle.single_agent.specs.declared.act.Point.{Point}
 use Rattle.single_agent.specs.declared.outcome.Outcome.{Outcome}
 use Rattle.single_agent.specs.declared.request.Request.{Request}
 use Rattle.single_agent.specs.declared.step.OpName.{OpName}
 use Rattle.agent_laws.specs.Belonging.{IsClosed}
 use Rattle.agent_laws.proofs.ClosedLogs.{closed_played}
-use Rattle.single_agent.specs.Turns.{Turned, log_of, with_act, record_of, is_exchange, told_of, next_renderer, needs_room, NeedsRoom, HasRoom, Plays, most_acts}
+use Rattle.single_agent.specs.Turns.{Turned, log_of, with_act, record_of, is_exchange, calls_of, counts, is_named, is_losing, told_of, next_renderer, needs_room, loses_next, HasRoom, Does, Plays, most_acts}
 use Rattle.single_agent.proofs.Grown.{Within}
 use Rattle.single_agent.proofs.Legal.{acts_within}
 use Rattle.single_agent.proofs.Played.{legal_record, record_own, record_not}
@@ -35,7 +37,7 @@ use Rattle.session_player.specs.Steps.{HeardAll, IsTied, IsSound, move_now, Acts
 use Rattle.session_player.specs.Underway.{Keeps, Seat, AreNumbered, seats_of, seat_of, IsUnderway, acts_left, TurnEnds}
 use Rattle.session_player.proofs.Leaves.{set_same, set_other, set_length, set_here, get_map, set_map, map_length, read_same, read_other}
 use Rattle.session_player.proofs.Sound.{sound_answers, sound_asks, sound_heard, closed_task}
-use Rattle.session_player.proofs.Keeping.{level, move_is, kept_local, kept_asking, kept_task, kept_idle, kept_other}
+use Rattle.session_player.proofs.Keeping.{level, going_on, move_is, kept_local, kept_asking, kept_task, kept_idle, kept_other}
 
 -- the workers stay by their numbers
 pub still_numbered : (seats : List Seat) (n : ℕ) (x y : Seat) → AreNumbered seats → slice_get seats n ≡ Some x → n < length seats → y.renderer ≡ x.renderer → AreNumbered (slice_set seats n y)
@@ -54,10 +56,28 @@ left_after [] i x y h = absurd cc
 left_after (z ∷ seats) zero x y h = let e : z ≡ x = cc in let f = ap (λ (q : Seat). length q.holds.acts) e in omega arith
 left_after (z ∷ seats) (suc i) x y h = omega (arith, left_after seats i x y h)
 
-told_own : (s : Session) (t : Turned) (older : List Turned)
+-- a session without losses loses no exchange
+none_lost : (s : Session) (r : ℕ) (log : List Entry) (acts : List Act) → s.lose ≡ [] → is_losing s r log acts ≡ false
+unfolding is_losing
+none_lost s r log acts none =
+    ap (λ (l : List Lose). is_named (find (λ (x : Lose). x.renderer == r) l) (calls_of s log acts) (counts log r (next_move s log acts)) && is_exchange (next_move s log acts)) none
+
+pub loses_none : (s : Session) (turns : List Turned) (r : ℕ) → s.lose ≡ [] → loses_next s turns r ≡ false
+loses_none s turns r none = none_lost s r (log_of s turns) (record_of r turns) none
+
+heard_if : {A : Type 0} (b lost : Bool) (x y : A) → lost ≡ false → (if b && not lost then x else y) ≡ (if b then x else y)
+heard_if true true x y h = absurd cc
+heard_if true false x y h = refl
+heard_if false lost x y h = refl
+
+told_own : (s : Session) (t : Turned) (older : List Turned) → s.lose ≡ []
     → told_of s t.renderer (t ∷ older) ≡ (if is_exchange (next_move s (log_of s older) (record_of t.renderer older)) then length (t.own ++ log_of s older) else told_of s t.renderer older)
 unfolding told_of
-told_own s t older = elim (eqb_tells t.renderer t.renderer) [ inl p ↦ rw p.0 refl | inr p ↦ absurd (p.1 refl) ]
+told_own s t older none =
+    ap (λ b. if b && is_exchange (next_move s (log_of s older) (record_of t.renderer older)) && not (is_losing s t.renderer (log_of s older) (record_of t.renderer older))
+    then length (t.own ++ log_of s older) else told_of s t.renderer older) (eq-eqb t.renderer t.renderer refl)
+    ∙ heard_if (is_exchange (next_move s (log_of s older) (record_of t.renderer older))) (is_losing s t.renderer (log_of s older) (record_of t.renderer older)) (length (t.own ++ log_of s older)) (told_of s t.renderer older)
+    (none_lost s t.renderer (log_of s older) (record_of t.renderer older) none)
 
 told_not : (s : Session) (q : ℕ) (t : Turned) (older : List Turned) → t.renderer ≢ q → told_of s q (t ∷ older) ≡ told_of s q older
 unfolding told_of
@@ -67,9 +87,8 @@ log_more : (s : Session) (t : Turned) (older : List Turned) → log_of s (t ∷ 
 unfolding log_of
 log_more s t older = refl
 
-some_left : (s : Session) (log : List Entry) (acts : List Act) (mv : Move) → next_move s log acts ≡ mv → (mv ≡ Takes → ⊥) → step_left s log acts ≡ None → ⊥
-unfolding next_move
-some_left s log acts mv e other none = other (sym e ∙ ap (move_of (sight s log acts)) none)
+some_left : (s : Session) (log : List Entry) (acts : List Act) (mv : Move) → has_stopped acts ≡ false → next_move s log acts ≡ mv → (mv ≡ Takes → ⊥) → step_left s log acts ≡ None → ⊥
+some_left s log acts mv goes e other none = other (sym e ∙ going_on s log acts goes ∙ ap (move_of (sight s log acts)) none)
 
 module _ (s : Session) (turns : List Turned) (tl : List ℕ) (m : Ledger) (seats : List Seat) (n : ℕ) (x y : Seat) (here : slice_get seats n ≡ Some x) (within : n < length seats)
     (u : IsUnderway s turns (ledger (log_of s turns) tl) seats) (due : next_renderer s turns ≡ Some n) where
@@ -100,7 +119,7 @@ module _ (s : Session) (turns : List Turned) (tl : List ℕ) (m : Ledger) (seats
   here_there = omega (arith, u.count)
 
   all_within : Within (length (log_of s turns)) (record_of n turns)
-  all_within = acts_within s n (log_of s turns) (record_of n turns) _ (legal_record s n turns u.played)
+  all_within = let legal = legal_record s n turns u.played in acts_within s n (log_of s turns) (record_of n turns) legal.0 legal.1
 
   move_at : move_now s x.holds ≡ next_move s (log_of s turns) (record_of n turns)
   move_at = move_is s n (log_of s turns) (record_of n turns) (told_of s n turns) x.holds u.admitted kept
@@ -128,22 +147,35 @@ module _ (s : Session) (turns : List Turned) (tl : List ℕ) (m : Ledger) (seats
   idle_sound : IsIdle n x.holds (ledger (log_of s turns) tl) y.holds m → IsSound y.holds
   idle_sound a = sound_heard [] (log_of s turns) (told_of s n turns) x.holds y.holds u.admitted closed kept.sound kept.tree (a.all.tree ∙ ap tree_of a.log) a.registers a.stores
 
+  lossless : loses_next s turns n ≡ false
+  lossless = loses_none s turns n u.lossless
+
   fewer_at : length x.holds.acts < most_acts → length (record_of n turns) < most_acts
   fewer_at h = omega (arith, ap length kept.acts_are)
 
   -- one more turn of n
-  more : (act : Option Act) (own : List Entry) → length x.holds.acts < most_acts → (NeedsRoom s turns n → HasRoom (log_of s turns))
-      → Plays s n (log_of s turns) (record_of n turns) (told_of s n turns) act own
+  more : (act : Option Act) (own : List Entry) → length x.holds.acts < most_acts → (IsTrue (needs_room (tree_of (log_of s turns)) n (next_move s (log_of s turns) (record_of n turns))) → HasRoom (log_of s turns))
+      → Does s n (log_of s turns) (record_of n turns) (told_of s n turns) act own
       → m.log ≡ own ++ log_of s turns → length m.log ≤ 20000 → (told' : ℕ) → told' ≡ (if is_exchange (next_move s (log_of s turns) (record_of n turns)) then length (own ++ log_of s turns) else told_of s n turns)
       → get_or m.told n 0 ≡ told' → ((r : ℕ) → n ≢ r → get_or m.told r 0 ≡ get_or tl r 0) → length m.told ≡ length tl
       → Keeps s n (own ++ log_of s turns) (with_act act (record_of n turns)) told' y.holds
       → IsUnderway s (record { renderer = n; act = act; own = own } ∷ turns) m (slice_set seats n y)
   more act own fewer room plays grown few told' told_is told_here told_there same_length keeps' =
       let t : Turned = record { renderer = n; act = act; own = own } in
-      let told_new : told' ≡ told_of s n (t ∷ turns) = told_is ∙ sym (told_own s t turns) in
+      let told_new : told' ≡ told_of s n (t ∷ turns) = told_is ∙ sym (told_own s t turns u.lossless) in
       let log_new = log_more s t turns in
       record {
-        played = (record { due = due; there = here_there; fewer = fewer_at fewer; room = room; plays = plays }, u.played);
+        lossless = u.lossless;
+        played = (
+          record {
+            due = due;
+            there = here_there;
+            fewer = λ h. fewer_at fewer;
+            room = λ h. room h.1;
+            plays = subst (λ b. Plays b s n (log_of s turns) (record_of n turns) (told_of s n turns) act own) (sym lossless) plays;
+          },
+          u.played,
+        );
         log = grown ∙ sym log_new;
         told = λ r. elim (eqb_tells n r) [
           | inl p ↦ subst (λ k. get_or m.told k 0 ≡ told_of s k (t ∷ turns)) p.1 (told_here ∙ told_new)
@@ -164,7 +196,8 @@ module _ (s : Session) (turns : List Turned) (tl : List ℕ) (m : Ledger) (seats
               (subst (λ (a : List Act). Keeps s n (own ++ log_of s turns) a told' y.holds) (sym (record_own t turns)) keeps')))
           | inr p ↦
               let k : Keeps s r (log_of s turns) (record_of r turns) (told_of s r turns) z.holds = u.seated r z (sym (set_other seats n r y p.1) ∙ at) in
-              let w : Within (length (log_of s turns)) (record_of r turns) = acts_within s r (log_of s turns) (record_of r turns) _ (legal_record s r turns u.played) in
+              let legal = legal_record s r turns u.played in
+              let w : Within (length (log_of s turns)) (record_of r turns) = acts_within s r (log_of s turns) (record_of r turns) legal.0 legal.1 in
               subst (λ j. Keeps s r (own ++ log_of s turns) (record_of r (t ∷ turns)) j z.holds) (sym (told_not s r t turns p.1))
               (subst (λ (a : List Act). Keeps s r (own ++ log_of s turns) a (told_of s r turns) z.holds) (sym (record_not r t turns p.1)) (kept_other s r own (log_of s turns) (record_of r turns) (told_of s r turns) z.holds k w))
         ]);
@@ -185,7 +218,7 @@ module _ (s : Session) (turns : List Turned) (tl : List ℕ) (m : Ledger) (seats
   acted : (mv : Move) → next_move s (log_of s turns) (record_of n turns) ≡ mv → length x.holds.acts < most_acts → (IsTrue (needs_room (tree_of (log_of s turns)) n mv) → HasRoom (log_of s turns))
       → ActsBy s n mv x.holds (ledger (log_of s turns) tl) y.holds m → TurnEnds s turns n seats Acted m (slice_set seats n y)
   acted (Answers doc point op outcome) e fewer room a =
-      let some : step_left s (log_of s turns) (record_of n turns) ≡ None → ⊥ = some_left s (log_of s turns) (record_of n turns) (Answers doc point op outcome) e (λ h. cc) in
+      let some : step_left s (log_of s turns) (record_of n turns) ≡ None → ⊥ = some_left s (log_of s turns) (record_of n turns) (Answers doc point op outcome) kept.goes_on e (λ h. cc) in
       let lev : told_of s n turns ≡ newest_length (record_of n turns) = level s (log_of s turns) (record_of n turns) (told_of s n turns) x.holds.run kept.run some in
       let act : Act = StepAct (told_of s n turns) doc point op (answer.Outcome outcome) in
       let moves : IsActOn s n (log_of s turns) (record_of n turns) act [] =
@@ -200,13 +233,13 @@ module _ (s : Session) (turns : List Turned) (tl : List ℕ) (m : Ledger) (seats
         lesser _ fewer a.acts,
       )
   acted (Asks doc point op q) e fewer room a =
-      let some : step_left s (log_of s turns) (record_of n turns) ≡ None → ⊥ = some_left s (log_of s turns) (record_of n turns) (Asks doc point op q) e (λ h. cc) in
+      let some : step_left s (log_of s turns) (record_of n turns) ≡ None → ⊥ = some_left s (log_of s turns) (record_of n turns) (Asks doc point op q) kept.goes_on e (λ h. cc) in
       let own : List Entry = (exchange (rules_of s) (log_of s turns) n q).entries in
-      let given = answer_of op (exchange (rules_of s) (log_of s turns) n q).outcome in
-      let act : Act = StepAct (length (own ++ log_of s turns)) doc point op given in
+      let act : Act = StepAct (length (own ++ log_of s turns)) doc point op a.given in
       let longer : length (own ++ log_of s turns) ≡ length own + length (log_of s turns) = length-append own (log_of s turns) in
       let moves : IsActOn s n (log_of s turns) (record_of n turns) act own =
-      subst (λ (k : Move). MovesTo (rules_of s) n (log_of s turns) (record_of n turns) k act own) (sym e) (refl, ap (λ k. StepAct k doc point op given) longer) in (
+      subst (λ (k : Move). MovesTo (rules_of s) n (log_of s turns) (record_of n turns) k act own) (sym e)
+      (refl, ap (λ k. Some (StepAct k doc point op a.given)) longer ∙ ap (option_map (StepAct (length own + length (log_of s turns)) doc point op)) a.gives) in (
         record { renderer = n; act = Some act; own = own },
         refl,
         refl,
@@ -216,6 +249,7 @@ module _ (s : Session) (turns : List Turned) (tl : List ℕ) (m : Ledger) (seats
             (kept_asking s n (log_of s turns) (record_of n turns) (told_of s n turns) doc point op q x.holds y.holds (ledger (log_of s turns) tl) m kept (asking_sound doc point op q e a) u.admitted all all_within refl some a),
         lesser _ fewer a.acts,
       )
+  acted Stays e fewer room a = absurd a
   acted Takes e fewer room a =
       let own : List Entry = task_entry n a.what ∷ [] in
       let act : Act = Task (length (log_of s turns) + 1) (kind_of a.what) (length (log_of s turns)) in
@@ -247,15 +281,15 @@ module _ (s : Session) (turns : List Turned) (tl : List ℕ) (m : Ledger) (seats
         record { renderer = n; act = None; own = [] },
         refl,
         refl,
-        more None [] step.0 (λ h. step.1) (takes, a.none, refl) a.log (omega (arith, u.few, ap length a.log)) (length (log_of s turns))
+        more None [] step.0 (λ h. step.1) (inr (takes, a.none), refl) a.log (omega (arith, u.few, ap length a.log)) (length (log_of s turns))
             (sym (ap (λ (k : Move). if is_exchange k then length (log_of s turns) else told_of s n turns) takes))
             (heard_here a.all ∙ ap length a.log) (heard_there a.all) (heard_length a.all)
             (kept_idle s n (log_of s turns) (record_of n turns) (told_of s n turns) x.holds y.holds (ledger (log_of s turns) tl) m kept (idle_sound a) all_within refl takes a),
         omega (arith, left_after seats n x y here, ap length a.acts),
       )
   turned Full step same =
-      (record { due = due; fewer = fewer_at step.0; needs = subst (λ (k : Move). IsTrue (needs_room (tree_of (log_of s turns)) n k)) move_at step.1; full = step.2 }, unchanged step.3 same step.4)
-  turned ActsFull step same = (record { due = due; many = omega (arith, step.0, ap length kept.acts_are) }, unchanged step.1 same step.2)
+      (record { due = due; goes_on = kept.goes_on; fewer = fewer_at step.0; needs = (lossless, subst (λ (k : Move). IsTrue (needs_room (tree_of (log_of s turns)) n k)) move_at step.1); full = step.2 }, unchanged step.3 same step.4)
+  turned ActsFull step same = (record { due = due; goes_on = kept.goes_on; many = omega (arith, step.0, ap length kept.acts_are) }, unchanged step.1 same step.2)
   turned BadReply step same = absurd step
 
 -- a turn of a worker in its place

@@ -1,5 +1,6 @@
 pub mod Growing
 pub mod There
+pub mod Quiet
 pub mod Serves
 pub mod Steps
 pub mod Underway

@@ -14,6 +14,7 @@ use Rattle.single_agent.specs.Navigation.{flags_in, is_in}
 use Rattle.single_agent.specs.NextTask.{next_task, task_entry}
 use Rattle.single_agent.specs.Decision.{Rules, asker_of, home_if_active, framed, asked}
 use Rattle.single_agent.specs.Turns.{HasRoom, IsFull}
+use Rattle.session_player.specs.Quiet.{is_commit}
 use Rattle.session_player.specs.declared.desk.Told.{Told}
 use Rattle.session_player.specs.declared.desk.NextReply.{NextReply}
 use Rattle.session_player.specs.declared.desk.NextReply.TheVariants as next
@@ -36,12 +37,12 @@ pub record Tells (r : ℕ) (old : List ℕ) (now : Ledger) (told : Told) : Type 
   pub news : now.log ≡ reverse told.news.items ++ prefix (get_or old r 0) now.log
   pub noted : now.told ≡ slice_set old r (length now.log)
 
--- renderer r takes its next task
+-- renderer r takes its next task: so far always a commit
 abbrev pub ServesNext : ℕ → Ledger → NextReply → Ledger → Type 0
 ServesNext r l next.Full m = IsFull l.log × (m ≡ l)
 ServesNext r l (next.Nothing told) m = HasRoom l.log × (next_task l.log r ≡ None) × (m.log ≡ l.log) × Tells r l.told m told
 ServesNext r l (next.Task place told) m =
-    HasRoom l.log × (what : What) × (next_task l.log r ≡ Some what) × (m.log ≡ task_entry r what ∷ l.log) × (place ≡ length l.log) × Tells r l.told m told
+    HasRoom l.log × (what : What) × (next_task l.log r ≡ Some what) × (is_commit what ≡ true) × (m.log ≡ task_entry r what ∷ l.log) × (place ≡ length l.log) × Tells r l.told m told
 
 -- REQUESTS
 

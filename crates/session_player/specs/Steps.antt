@@ -1,5 +1,5 @@
 -- What a step of a worker does.
-use Rattle.std.specs.Prelude.{◌≡◌, ℕ, ◌+◌, ◌<◌, ◌≤◌, List, ◌∷◌, ◌++◌, length, reverse, get_or, slice_set, Option, Some, None, IsTrue, option_and_then}
+use Rattle.std.specs.Prelude.{◌≡◌, ℕ, ◌+◌, ◌<◌, ◌≤◌, List, ◌∷◌, ◌++◌, length, reverse, get_or, slice_set, Option, Some, None, true, IsTrue, option_and_then}
 use Rattle.std.specs.Option.{option_map}
 use Rattle.window_props.specs.declared.value.Value.{Value}
 use Rattle.window_props.specs.declared.platform.Object.{Object}
@@ -12,9 +12,10 @@ use Rattle.tree_log.specs.Admits.{AreAdmitted}
 use Rattle.single_agent.specs.declared.session.Session.{Session}
 use Rattle.single_agent.specs.declared.act.Act.{Act}
 use Rattle.single_agent.specs.declared.act.Act.TheVariants.{Step as StepAct, Task}
+use Rattle.single_agent.specs.declared.act.Answer.{Answer}
 use Rattle.single_agent.specs.declared.act.Answer.TheVariants as answer
 use Rattle.single_agent.specs.declared.act.Move.{Move}
-use Rattle.single_agent.specs.declared.act.Move.TheVariants.{Answers, Asks, Takes}
+use Rattle.single_agent.specs.declared.act.Move.TheVariants.{Answers, Asks, Takes, Stays}
 use Rattle.single_agent.specs.declared.act.Running.{Running}
 use Rattle.single_agent.specs.declared.act.Point.{Point}
 use Rattle.single_agent.specs.declared.outcome.Outcome.{Outcome}
@@ -23,10 +24,11 @@ use Rattle.single_agent.specs.declared.step.OpName.{OpName}
 use Rattle.single_agent.specs.Decision.{rules_of, exchange}
 use Rattle.single_agent.specs.StepAnswer.{Sight, changed}
 use Rattle.single_agent.specs.NextTask.{next_task, task_entry}
-use Rattle.single_agent.specs.NextAct.{Left, left_on, registers_after, move_of, one_more, starts_script, kind_of, answer_of}
+use Rattle.single_agent.specs.NextAct.{Left, left_on, registers_after, move_of, one_more, starts, kind_of, answer_of}
 use Rattle.single_agent.specs.Turns.{most_acts, HasRoom, IsFull, needs_room}
 use Rattle.single_agent.proofs.Mine.{IsMine}
 use Rattle.agent_laws.specs.Belonging.{RegistersBelong, StoresBelong, IsClosed}
+use Rattle.session_player.specs.Quiet.{is_commit}
 use Rattle.session_player.specs.Serves.{Ledger}
 use Rattle.session_player.specs.declared.worker.Turn.{Turn}
 use Rattle.session_player.specs.declared.worker.Turn.TheVariants.{Acted, Idle, Full, ActsFull, BadReply}
@@ -55,7 +57,7 @@ pub record IsSound (w : Holds) : Type 0 where
   pub registers : RegistersBelong w.tree w.registers
   pub stores : StoresBelong w.tree w.stores
 
--- the document of a running script is there, homed at the renderer, and has been active
+-- the document of what runs is there, homed at the renderer, and has been active
 abbrev pub IsOwnRun : ℕ → Tree → Option Running → Type 0
 IsOwnRun r t None = Unit {0}
 IsOwnRun r t (Some run) = IsMine r t run.doc
@@ -103,19 +105,22 @@ pub record ActsLocally (s : Session) (doc : ℕ) (point : Point) (op : OpName) (
 pub record ActsByAsking (s : Session) (r doc : ℕ) (point : Point) (op : OpName) (q : Request) (w : Holds) (l : Ledger) (v : Holds) (m : Ledger) : Type 0 where
   pub log : m.log ≡ (exchange (rules_of s) l.log r q).entries ++ l.log
   pub few : length l.log ≤ 20000 → length m.log ≤ 20000
-  pub acts : v.acts ≡ StepAct (length m.log) doc point op (answer_of op (exchange (rules_of s) l.log r q).outcome) ∷ w.acts
+  pub given : Answer
+  pub gives : Some given ≡ answer_of op (exchange (rules_of s) l.log r q).outcome
+  pub acts : v.acts ≡ StepAct (length m.log) doc point op given ∷ w.acts
   pub run : v.run ≡ option_map one_more w.run
-  pub registers : v.registers ≡ registers_after (left_now s w) (answer_of op (exchange (rules_of s) l.log r q).outcome) w.registers
+  pub registers : v.registers ≡ registers_after (left_now s w) given w.registers
   pub stores : v.stores ≡ w.stores
   pub same : stores_then (left_now s w) w ≡ w.stores  -- a step that asks changes no property
   pub all : HeardAll r l v m
 
--- a task that was taken
+-- a task that was taken: so far a commit, which writes no register
 pub record ActsByTask (r : ℕ) (w : Holds) (l : Ledger) (v : Holds) (m : Ledger) : Type 0 where
   pub what : What
   pub next : next_task l.log r ≡ Some what
+  pub commits : is_commit what ≡ true
   pub acts : v.acts ≡ Task (length l.log + 1) (kind_of what) (length l.log) ∷ w.acts
-  pub run : v.run ≡ starts_script what
+  pub run : v.run ≡ starts (length l.log) what
   pub registers : v.registers ≡ w.registers
   pub stores : v.stores ≡ w.stores
   pub log : m.log ≡ task_entry r what ∷ l.log
@@ -125,6 +130,7 @@ abbrev pub ActsBy : Session → ℕ → Move → Holds → Ledger → Holds → 
 ActsBy s r (Answers doc point op outcome) w l v m = ActsLocally s doc point op outcome w l v m
 ActsBy s r (Asks doc point op q) w l v m = ActsByAsking s r doc point op q w l v m
 ActsBy s r Takes w l v m = ActsByTask r w l v m
+ActsBy s r Stays w l v m = ⊥
 
 -- nothing was left to do
 pub record IsIdle (r : ℕ) (w : Holds) (l : Ledger) (v : Holds) (m : Ledger) : Type 0 where

@@ -11,7 +11,7 @@ use Rattle.single_agent.specs.declared.act.Ending.{Ending}
 use Rattle.tree_log.specs.Admits.{AreAdmitted}
 use Rattle.single_agent.specs.Registers.{unset}
 use Rattle.single_agent.specs.StepAnswer.{first_stores}
-use Rattle.single_agent.specs.NextAct.{newest_length, running, step_left, registers, stores}
+use Rattle.single_agent.specs.NextAct.{newest_length, has_stopped, running, step_left, registers, stores}
 use Rattle.script_steps.specs.Kept.{kept}
 use Rattle.script_steps.specs.Stored.{stored}
 use Rattle.single_agent.specs.Turns.{Turned, log_of, record_of, told_of, next_renderer, has_act, most_acts, StopsAtActs, StopsAtLog, EndsBy, ArePlayed}
@@ -30,9 +30,10 @@ abbrev pub FitsRun : Session → List Entry → List Act → ℕ → Option Runn
 FitsRun s log acts heard None = step_left s log acts ≡ None
 FitsRun s log acts heard (Some run) = (heard ≡ newest_length acts) × (running log acts ≡ Some run)
 
--- a worker that holds what the log and its acts say, and has heard the log to a place
+-- a worker that holds what the log and its acts say, and has heard the log to a place; no act of it was lost
 pub record Keeps (s : Session) (r : ℕ) (log : List Entry) (acts : List Act) (told : ℕ) (w : Holds) : Type 0 where
   pub acts_are : w.acts ≡ acts
+  pub goes_on : has_stopped acts ≡ false
   pub heard : w.heard ≡ told
   pub within : told ≤ length log
   pub tree : w.tree ≡ tree_of (prefix told log)
@@ -65,7 +66,9 @@ fresh = holds [] 0 (tree_of []) (url_of []) None unset first_stores
 abbrev pub AreFresh : List Seat → Type 0
 AreFresh seats = (r : ℕ) (x : Seat) → slice_get seats r ≡ Some x → (x.renderer ≡ r) × (x.holds ≡ fresh)
 
+-- so far a session that is played has no losses
 pub record IsUnderway (s : Session) (turns : List Turned) (l : Ledger) (seats : List Seat) : Type 0 where
+  pub lossless : s.lose ≡ []
   pub played : ArePlayed s turns
   pub log : l.log ≡ log_of s turns
   pub told : (r : ℕ) → get_or l.told r 0 ≡ told_of s r turns

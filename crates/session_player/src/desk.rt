@@ -1,4 +1,4 @@
-ghost use Rattle.std.specs.Prelude.{◌≡◌, ◌++◌, ◌+◌, ◌-◌, ◌<◌, ◌≤◌, ◌^◌, [], ◌∷◌, List, ℕ, length, reverse, drop, get_or, slice_set, vec_len, vec_capacity, IsTrue, OnOk, OnErr, IfOk, None, Some};
+ghost use Rattle.std.specs.Prelude.{◌≡◌, ◌++◌, ◌+◌, ◌-◌, ◌<◌, ◌≤◌, ◌^◌, [], ◌∷◌, List, ℕ, length, reverse, drop, get_or, slice_set, vec_len, vec_capacity, true, IsTrue, OnOk, OnErr, IfOk, None, Some};
 ghost use Rattle.std.specs.Option.{option_to_list};
 ghost use Rattle.tree_log.specs.Tree.{tree_of, is};
 ghost use Rattle.tree_log.specs.Facts.{groups_after, loads_after, with_load};
@@ -7,6 +7,7 @@ ghost use Rattle.tree_log.proofs.Admitted.{AreAdmitted-prop};
 ghost use Rattle.script_steps.specs.Built.{is_made};
 ghost use Rattle.single_agent.specs.Decision.{rules_of, asker_of, home_if_active};
 ghost use Rattle.single_agent.specs.Session.{start_entry};
+ghost use Rattle.session_player.specs.Quiet.{is_quiet, are_quiet};
 
 use crate::replica::Replica;
 use crate::requests::{Replied, asker_of, decided, start_entry};
@@ -48,7 +49,7 @@ pub enum AskReply {
 }
 
 /// The coordinator. It keeps the log, a view of it, how much of it each renderer was told, and, of the tree, the number
-/// of groups and the loaded documents.
+/// of groups and the loaded documents. So far its log has no messages and no windows that were asked to close.
 #[derive(Drop)]
 pub struct Desk<V: Replica> {
     pub log: Log,
@@ -60,6 +61,7 @@ pub struct Desk<V: Replica> {
     ghost admitted: { AreAdmitted log.entries } by { AreAdmitted-prop log.entries },
     ghost counted: { groups ≡ (tree_of log.entries).groups },
     ghost loaded: { loads.items ≡ (tree_of log.entries).loads },
+    ghost quiet: { are_quiet log.entries ≡ true },
 }
 
 /// The entries from a place on.
@@ -143,6 +145,7 @@ impl<V: Replica> Desk<V> {
     fn append(&mut self, entry: Entry) -> Result<(), AllocError>
         requires few { length self.old.log.entries < 2 ^ 30 }
         requires admitted { IsTrue (admits (tree_of self.old.log.entries) entry) }
+        requires quiet { IsTrue (is_quiet entry.what) }
         ensures ok { OnOk result (self.new.log.entries ≡ entry ∷ self.old.log.entries) }
         ensures told { self.new.told.items ≡ self.old.told.items }
         ensures count { vec_len self.new.told ≡ vec_len self.old.told }

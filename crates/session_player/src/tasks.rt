@@ -1,9 +1,10 @@
-ghost use Rattle.std.specs.Prelude.{◌≡◌, Some};
+ghost use Rattle.std.specs.Prelude.{◌≡◌, ◌<◌, Some};
 ghost use Rattle.tree_log.specs.Log as spec;
-ghost use Rattle.tree_log.proofs.Admitted.{LoadsStand, StandsIfAny, StandsFor, AllStand};
-ghost use Rattle.single_agent.specs.NextTask.{load_waits, load_task, task_of, first_task};
+ghost use Rattle.tree_log.proofs.Admitted.{TaskStands, StandsIfAny, StandsFor, AllStand};
+ghost use Rattle.single_agent.specs.NextTask.{load_waits, load_task, is_for, delivery, ends, is_over, message_task, closing_task, task_of, first_task};
 
-use tree_log::{Load, Log, What};
+use origin_core::{Origin, same_origin};
+use tree_log::{Cause, Load, Log, Target, What};
 use tree_view::View;
 
 /// Whether a load waits at a renderer.
@@ -54,15 +55,109 @@ fn waiting_task<V: View>(view: &V, renderer: u16, place: u32, nav: u32, load: &L
     }
 }
 
+/// Whether a message for this target is for documents of this origin.
+fn is_for(target: &Target, origin: &Origin) -> bool
+    ensures { result ≡ is_for target.now origin.now }
+{
+    match target {
+        Target::Any => true,
+        Target::Never => false,
+        Target::Origin(wanted) => same_origin(wanted, origin),
+    }
+}
+
+/// What becomes of the message at a place: it fires at its document, or lapses.
+fn delivery<V: View>(view: &V, place: u32, to: u32, target: &Target) -> What
+    requires { to < (V.tree view.now).docs }
+    ensures { result ≡ delivery (V.tree view.now) place to target.now }
+{
+    if !view.is_active(to) {
+        return What::Lapse {
+            doc: to,
+            post: place,
+            cause: Cause::Inactive,
+        };
+    }
+    if is_for(target, view.origin_of(to)) {
+        What::Fire {
+            doc: to,
+            post: place,
+        }
+    } else {
+        What::Lapse {
+            doc: to,
+            post: place,
+            cause: Cause::Origin,
+        }
+    }
+}
+
+/// Whether an entry is the end of the message to a document that stands at a place.
+fn ends(what: &What, to: u32, place: u32) -> bool
+    ensures { result ≡ ends to place what.now }
+{
+    match what {
+        What::Fire { doc, post } => *doc == to && *post == place,
+        What::Lapse { doc, post, .. } => *doc == to && *post == place,
+        _ => false,
+    }
+}
+
+/// Whether the message to a document that stands at a place fired or lapsed.
+fn is_over(log: &Log, to: u32, place: u32) -> bool
+    ensures { result ≡ is_over log.now.entries to place }
+{
+    for number in 0..log.len() {
+        let Some(entry) = log.at(number) else {
+            return unreachable!();
+        };
+        if ends(&entry.what, to, place) {
+            return true;
+        }
+    }
+    false
+}
+
+fn message_task<V: View>(
+    log: &Log,
+    view: &V,
+    renderer: u16,
+    place: u32,
+    to: u32,
+    target: &Target,
+) -> Option<What>
+    requires { to < (V.tree view.now).docs }
+    ensures { result ≡ message_task (V.tree view.now) (is_over log.now.entries) renderer place to target.now }
+{
+    if view.home_of(to) == renderer && !is_over(log, to, place) {
+        Some(delivery(view, place, to, target))
+    } else {
+        None
+    }
+}
+
+fn closing_task<V: View>(view: &V, renderer: u16, nav: u32) -> Option<What>
+    requires { nav < (V.tree view.now).navs }
+    ensures { result ≡ closing_task (V.tree view.now) renderer nav }
+{
+    if view.home_of(view.active(nav)) == renderer && !view.discarded(nav) {
+        Some(What::Gone { nav })
+    } else {
+        None
+    }
+}
+
 /// What the entry at a place leaves to be done at a renderer.
-fn task_of<V: View>(view: &V, renderer: u16, place: u32, what: &What) -> Option<What>
-    requires { LoadsStand (V.tree view.now) what.now }
-    ensures { result ≡ task_of (V.tree view.now) renderer place what.now }
+fn task_of<V: View>(log: &Log, view: &V, renderer: u16, place: u32, what: &What) -> Option<What>
+    requires { TaskStands (V.tree view.now) what.now }
+    ensures { result ≡ task_of (V.tree view.now) (is_over log.now.entries) renderer place what.now }
 {
     match what {
         What::Open { nav, load, .. } => load_task(view, renderer, place, *nav, load),
         What::Frame { nav, load, .. } => load_task(view, renderer, place, *nav, load),
         What::Begin { nav, load } => waiting_task(view, renderer, place, *nav, load),
+        What::Post { to, target, .. } => message_task(log, view, renderer, place, *to, target),
+        What::Closing { nav } => closing_task(view, renderer, *nav),
         _ => None,
     }
 }
@@ -70,13 +165,13 @@ fn task_of<V: View>(view: &V, renderer: u16, place: u32, what: &What) -> Option<
 /// The renderer's next task.
 pub fn first_task<V: View>(log: &Log, view: &V, renderer: u16) -> Option<What>
     requires { AllStand (V.tree view.now) log.now.entries }
-    ensures { result ≡ first_task (V.tree view.now) renderer log.now.entries }
+    ensures { result ≡ first_task (V.tree view.now) (is_over log.now.entries) renderer log.now.entries }
 {
     for place in 0..log.len() {
         let Some(entry) = log.at(place) else {
             return unreachable!();
         };
-        if let Some(task) = task_of(view, renderer, place, &entry.what) {
+        if let Some(task) = task_of(log, view, renderer, place, &entry.what) {
             return Some(task);
         }
     }

@@ -7,7 +7,7 @@ ghost use Rattle.single_agent.specs.declared.act.Running.{Running};
 ghost use Rattle.single_agent.specs.Registers as register_spec;
 ghost use Rattle.single_agent.specs.Registers.{unset};
 ghost use Rattle.single_agent.specs.NextAct as act_spec;
-ghost use Rattle.single_agent.specs.NextAct.{left_at, left_on, one_more, starts_script, op_of};
+ghost use Rattle.single_agent.specs.NextAct.{made_before, left_at, left_on, next_point, one_more, starts, kind_of, op_of};
 ghost use Rattle.single_agent.specs.Decision.{asker_of};
 ghost use Rattle.single_agent.specs.declared.request.ReplyOutcome.{ReplyOutcome as OutcomeOf};
 ghost use Rattle.session_player.specs.Serves.{Replies};
@@ -65,26 +65,52 @@ pub struct Worker<V: Replica> {
     pub stores: Stores,
     ghost there: { (r : Running) → run ≡ Some r → r.doc < (V.tree view).docs },
     ghost named: { AllThere (V.tree view) (kept registers) } by { all_there-prop (V.tree view) (kept registers) },
-    ghost counted: { (r : Running) → run ≡ Some r → r.made ≤ length acts.items },
+    ghost counted: { (r : Running) → run ≡ Some r → made_before r.point ≤ length acts.items },
 }
 
-/// What the newest of the entries starts.
-fn started<V: View>(view: &V, news: &[Entry]) -> Option<Running>
+/// What the newest of the entries starts, which stands at the place.
+fn started<V: View>(view: &V, place: u32, news: &[Entry]) -> Option<Running>
     ensures there { (r : Running) → result ≡ Some r → r.doc < (V.tree view.now).docs }
-    ensures first { (r : Running) → result ≡ Some r → r.made ≡ 0 }
+    ensures first { (r : Running) → result ≡ Some r → made_before r.point ≡ 0 }
     ensures value { (before : List EntryValue) → (entry : EntryValue) → news.now ≡ before ++ entry ∷ []
-        → ((r : Running) → starts_script entry.what ≡ Some r → r.doc < (V.tree view.now).docs) → result ≡ starts_script entry.what }
+        → ((r : Running) → starts place entry.what ≡ Some r → r.doc < (V.tree view.now).docs) → result ≡ starts place entry.what }
 {
     let entry = news.last()?;
+    let (doc, point) = match &entry.what {
+        What::Commit { doc, .. } => (*doc, Point::Script(0)),
+        What::Fire { doc, .. } => (*doc, Point::Handler(place, 0)),
+        _ => return None,
+    };
+    if doc < view.docs() {
+        Some(Running { doc, point })
+    } else {
+        None
+    }
+}
+
+/// The kind of the task whose entry is the newest of these.
+fn kind_of(news: &[Entry]) -> TaskKind
+    ensures { (before : List EntryValue) → (entry : EntryValue) → news.now ≡ before ++ entry ∷ [] → result ≡ kind_of entry.what }
+{
+    let Some(entry) = news.last() else {
+        return TaskKind::Commit;
+    };
     match &entry.what {
-        What::Commit { doc, .. } => {
-            if *doc < view.docs() {
-                Some(Running { doc: *doc, made: 0 })
-            } else {
-                None
-            }
-        }
-        _ => None,
+        What::Fire { .. } => TaskKind::Fire,
+        What::Lapse { .. } => TaskKind::Lapse,
+        What::Gone { .. } => TaskKind::Gone,
+        _ => TaskKind::Commit,
+    }
+}
+
+/// The point of the next step.
+fn next_point(point: Point) -> Point
+    requires { made_before point < 2 ^ 32 - 1 }
+    ensures { result ≡ next_point point }
+{
+    match point {
+        Point::Script(made) => Point::Script(made + 1),
+        Point::Handler(place, made) => Point::Handler(place, made + 1),
     }
 }
 
@@ -147,7 +173,7 @@ fn target_of(step: &Step) -> Option<&Text>
 
 /// What a step answers where the coordinator has decided.
 fn answer_of(op: OpName, reply: Replied) -> Answer
-    ensures value { (outcome : OutcomeOf) → Replies reply outcome → result ≡ act_spec.answer_of op outcome }
+    ensures value { (outcome : OutcomeOf) → Replies reply outcome → Some result ≡ act_spec.answer_of op outcome }
 {
     match reply {
         Replied::Done => match op {
@@ -196,7 +222,7 @@ impl<V: Replica> Worker<V> {
         }
     }
 
-    /// The step that is to be made next, and the script that runs.
+    /// The step that is to be made next, and what runs.
     fn left<'a>(&self, session: &'a Session) -> Option<(Running, &'a Step)>
         requires { AreBuilt session.now }
         ensures left { MatchOption result (option_and_then (left_on session.now (V.tree self.now.view) (V.urls self.now.view)) self.now.run ≡ None)
@@ -221,7 +247,7 @@ impl<V: Replica> Worker<V> {
         requires run { self.old.run ≡ Some run }
         requires few { length self.old.acts.items < 20000 }
         requires named { IsValueThere (V.tree self.old.view) (register_spec.value_in answer) }
-        ensures acts { OnOk result (self.new.acts.items ≡ self.old.acts.items ++ Act.Step self.old.heard run.doc (Point.Script run.made) op answer ∷ []) }
+        ensures acts { OnOk result (self.new.acts.items ≡ self.old.acts.items ++ Act.Step self.old.heard run.doc run.point op answer ∷ []) }
         ensures run { OnOk result (self.new.run ≡ option_map one_more self.old.run) }
         ensures registers { OnOk result (kept self.new.registers ≡ register_spec.written_to run.doc (option_copied to.entry) (register_spec.value_in answer) (kept self.old.registers)) }
         ensures stores { stored self.new.stores ≡ stored self.old.stores }
@@ -234,13 +260,13 @@ impl<V: Replica> Worker<V> {
         self.acts.push(Act::Step {
             at: self.heard,
             doc: run.doc,
-            point: Point::Script(run.made),
+            point: run.point,
             op,
             answer,
         })?;
         self.run = Some(Running {
             doc: run.doc,
-            made: run.made + 1,
+            point: next_point(run.point),
         });
         Ok(())
     }
@@ -263,7 +289,7 @@ impl<V: Replica> Worker<V> {
         ensures asks { IfOk result (λ turn. asker_of request ≡ run.doc → IsTied self.old.renderer (holds self.old.acts.items self.old.heard (V.tree self.old.view) (V.urls self.old.view) self.old.run (kept self.old.registers) (stored self.old.stores)) (ledger desk.old.log.entries desk.old.told.items)
             → left_now session.now (holds self.old.acts.items self.old.heard (V.tree self.old.view) (V.urls self.old.view) self.old.run (kept self.old.registers) (stored self.old.stores)) ≡ Some (left_at run step.now)
             → stores_then (Some (left_at run step.now)) (holds self.old.acts.items self.old.heard (V.tree self.old.view) (V.urls self.old.view) self.old.run (kept self.old.registers) (stored self.old.stores)) ≡ stored self.old.stores
-            → AskEnds session.now self.old.renderer run.doc (Point.Script run.made) (op_of step.now) request
+            → AskEnds session.now self.old.renderer run.doc run.point (op_of step.now) request
             (holds self.old.acts.items self.old.heard (V.tree self.old.view) (V.urls self.old.view) self.old.run (kept self.old.registers) (stored self.old.stores)) (ledger desk.old.log.entries desk.old.told.items) turn
             (holds self.new.acts.items self.new.heard (V.tree self.new.view) (V.urls self.new.view) self.new.run (kept self.new.registers) (stored self.new.stores)) (ledger desk.new.log.entries desk.new.told.items)) }
         ensures renderer { self.new.renderer ≡ self.old.renderer }
@@ -310,10 +336,10 @@ impl<V: Replica> Worker<V> {
                 if !self.hear(told.upto, &told.news)? {
                     return Ok(Turn::BadReply);
                 }
-                self.run = started(&self.view, &told.news);
+                self.run = started(&self.view, place, &told.news);
                 self.acts.push(Act::Task {
                     at: self.heard,
-                    kind: TaskKind::Commit,
+                    kind: kind_of(&told.news),
                     place,
                 })?;
                 Ok(Turn::Acted)

@@ -160,6 +160,7 @@ record IsReadSession (s : Session) : Type 0 where
   starts : length s.start ≤ 64
   start : All IsWeb s.start
   order : IsOrder s.renderers s.order
+  lose : s.lose ≡ []
   most : length s.pages ≤ 1000
   pages : All IsReadPage s.pages
   apart : IsDistinct has_same_url s.pages
@@ -181,7 +182,7 @@ session_ok j s e =
     let the_pages = field_ok its.Pages (list_of 0 1000 page_read) j pages.0 pages.1 in
     let found = list_ok 0 1000 page_read the_pages.0 pages.0 the_pages.1 in
     let fine = pages_ok pages.0 found in
-    let same : record { renderers = renderers.0; suffixes = suffixes.0; start = start.0; order = order.0; pages = pages.0 } ≡ s = let kept = others.2 in cc in
+    let same : record { renderers = renderers.0; suffixes = suffixes.0; start = start.0; order = order.0; lose = []; pages = pages.0 } ≡ s = let kept = others.2 in cc in
     rw (← same) (record {
       some_renderer = within.0;
       renderers = within.1;
@@ -190,6 +191,7 @@ session_ok j s e =
       starts = starts.at_most;
       start = start_ok start.0 starts;
       order = order_ok renderers.0 order.0 within.0 (field_or_ok its.Order [] (list_of 0 20000 (λ _. renderer_of renderers.0)) j order.0 order.1);
+      lose = refl;
       most = found.at_most;
       pages = fine.0;
       apart = fine.1;
@@ -217,7 +219,7 @@ in_range s read starts pages = record {
     handler = (read.pages k d h).handler;
   };
   apart = read.apart;
-  built = λ k d h. record { script = (read.pages k d h).script.built; handler = (read.pages k d h).handler.built };
+  built = (λ k d h. record { script = (read.pages k d h).script.built; handler = (read.pages k d h).handler.built }, read.lose);
 }
 
 pub range_of_gives : (result : Outcome Session) (j : Json) → Gives result (session_read j) → IfOk result (λ s. All IsPageText s.start) → IfOk result (λ s. All HasPageText s.pages) → IfOk result IsInRange

@@ -98,7 +98,7 @@ session_read j = do
   order ← order_read renderers j
   pages ← field its.Pages (list_of 0 1000 page_read) j
   others ← no_others (its.Renderers ∷ its.Suffixes ∷ its.Start ∷ its.Order ∷ its.Pages ∷ []) j
-  Ok (record { renderers = renderers; suffixes = suffixes; start = start; order = order; pages = pages })
+  Ok (record { renderers = renderers; suffixes = suffixes; start = start; order = order; lose = []; pages = pages })
 
 -- TEXTS
 

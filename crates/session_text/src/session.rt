@@ -247,6 +247,7 @@ fn session_of(alloc: Global, value: &Value) -> Result<Session, SessionError>
         suffixes,
         start,
         order,
+        lose: Items::new(alloc),
         pages,
     })
 }

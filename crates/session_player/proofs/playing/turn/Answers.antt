@@ -12,7 +12,7 @@ step-requires g c =
     let within : c.args.number < length c.args.workers.now.items = omega (arith, c.args.workers.now.ok.0) in
     let here = slice_get_read c.args.workers.now.items (length c.args.workers.now.items) c.args.number c.index_mut.result.now refl within c.index_mut.ensures.value in
     let number : c.index_mut.result.now.renderer ≡ c.args.number = c.requires.numbered c.args.number _ (get_map (seat_of g.V.View) c.args.workers.now.items c.args.number c.index_mut.result.now here) in
-    omega arith
+    record { seat = omega arith; some = c.requires.some; built = c.requires.built }
 
 pub returns-clause-numbered : goal.returns-clause-numbered
 returns-clause-numbered g c =

@@ -1,12 +1,12 @@
 use Rattle.std.proofs.Common.{sym, ap, ◌∙◌, arith, None}
 use Rattle.std.specs.Option.{option_copied}
 use Rattle.tree_log.proofs.Places.{prefix_none, entry_there}
-use Rattle.single_agent.specs.NextTask.{first_task}
+use Rattle.single_agent.specs.NextTask.{is_over, first_task}
 use Rattle.session_player.proofs.FirstTask.{stands_at, first_next, found_at, none_left}
 use Rattle.session_player.proofs.tasks.first_task.Goals as goal
 
 pub loop-place-init : goal.loop-place-init
-loop-place-init g c = ap (first_task (g.V.View.tree c.args.view.now) c.args.renderer) (prefix_none c.args.log.now.entries)
+loop-place-init g c = ap (first_task (g.V.View.tree c.args.view.now) (is_over c.args.log.now.entries) c.args.renderer) (prefix_none c.args.log.now.entries)
 
 pub unreachable-requires : goal.unreachable-requires
 unreachable-requires g c =
@@ -18,13 +18,13 @@ task_of-requires g c =
 
 pub returns-in-Some-task_of : goal.returns-in-Some-task_of
 returns-in-Some-task_of g c =
-    found_at (g.V.View.tree c.args.view.now) c.args.renderer c.loop-place.place c.args.log.now.entries c.in-Some.entry.now c.in-Some-task_of.task
+    found_at (g.V.View.tree c.args.view.now) (is_over c.args.log.now.entries) c.args.renderer c.loop-place.place c.args.log.now.entries c.in-Some.entry.now c.in-Some-task_of.task
     (sym c.at.ensures ∙ ap option_copied c.in-Some.is) c.loop-place.invariant (sym c.in-Some-task_of.is ∙ c.task_of.ensures)
 
 pub loop-place-preserved : goal.loop-place-preserved
 loop-place-preserved g c =
-    first_next (g.V.View.tree c.args.view.now) c.args.renderer c.loop-place.place c.args.log.now.entries c.in-Some.entry.now None
+    first_next (g.V.View.tree c.args.view.now) (is_over c.args.log.now.entries) c.args.renderer c.loop-place.place c.args.log.now.entries c.in-Some.entry.now None
     (sym c.at.ensures ∙ ap option_copied c.in-Some.is) c.loop-place.invariant (sym c.in_default-task_of.is ∙ c.task_of.ensures)
 
 pub returns : goal.returns
-returns g c = none_left (g.V.View.tree c.args.view.now) c.args.renderer c.loop-place.place c.args.log.now.entries (omega arith) c.loop-place.invariant
+returns g c = none_left (g.V.View.tree c.args.view.now) (is_over c.args.log.now.entries) c.args.renderer c.loop-place.place c.args.log.now.entries (omega arith) c.loop-place.invariant

@@ -1,7 +1,7 @@
 use Rattle.std.proofs.Common.{◌≡◌, None}
 use Rattle.tree_log.specs.Log.{prefix}
-use Rattle.single_agent.specs.NextTask.{first_task}
+use Rattle.single_agent.specs.NextTask.{is_over, first_task}
 use Rattle.session_player.proofs.tasks.first_task.Given as goal
 
 abbrev pub invariant-loop-place : goal.invariant-loop-place
-invariant-loop-place g l = first_task (g.V.View.tree l.view) l.renderer (prefix l.place l.log.entries) ≡ None
+invariant-loop-place g l = first_task (g.V.View.tree l.view) (is_over l.log.entries) l.renderer (prefix l.place l.log.entries) ≡ None

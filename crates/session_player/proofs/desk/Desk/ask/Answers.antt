@@ -5,6 +5,7 @@ use Rattle.tree_log.specs.Admits.{admits}
 use Rattle.single_agent.specs.Decision.{Decision, rules_of, asker_of, by, end_of, home_if_active}
 use Rattle.session_player.specs.Serves.{Decides, Tells, ledger}
 use Rattle.session_player.proofs.Asking.{asked_ended, asked_decided, decided_admitted, loads_there, few_docs}
+use Rattle.session_player.proofs.Quiet.{decided_quiet}
 use Rattle.session_player.proofs.desk.Desk.ask.Goals as goal
 
 pub returns-then-not-is_active-clause-serves : goal.returns-then-not-is_active-clause-serves
@@ -42,6 +43,10 @@ append-requires-clause-admitted g c =
     subst (λ (t : Tree). Decides (rules_of c.args.session.now) t c.args.request c.in_ok-what.what c.in_ok-what.reply) c.args.self.now.same c.in_ok-what.ensures in
     subst (λ a. admits (tree_of log) (by c.args.renderer a c.in_ok-what.what) ≡ true) (sym asker)
     (decided_admitted (rules_of c.args.session.now) log c.args.renderer c.args.request c.in_ok-what.what c.in_ok-what.reply (omega (arith, c.if-len.false, c.len.ensures)) there active decides)
+
+pub append-requires-clause-quiet : goal.append-requires-clause-quiet
+append-requires-clause-quiet g c =
+    decided_quiet (rules_of c.args.session.now) (g.V.View.tree c.args.self.now.view) c.args.request c.in_ok-what.what c.in_ok-what.reply c.in_ok-what.ensures
 
 pub returns-clause-serves : goal.returns-clause-serves
 returns-clause-serves g c =

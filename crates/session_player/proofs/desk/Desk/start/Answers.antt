@@ -5,6 +5,7 @@ use Rattle.tree_log.specs.Admits.{admits}
 use Rattle.single_agent.specs.Decision.{rules_of}
 use Rattle.single_agent.specs.Session.{start_entry}
 use Rattle.single_agent.proofs.Admitted.{start_admitted}
+use Rattle.session_player.specs.Quiet.{is_quiet}
 use Rattle.session_player.proofs.Asking.{loads_there, few_docs}
 use Rattle.session_player.proofs.desk.Desk.start.Goals as goal
 
@@ -21,3 +22,9 @@ append-requires-clause-admitted g c =
     let e : c.in_ok-entry.entry ≡ start_entry (rules_of c.args.session.now) (tree_of c.args.self.now.log.entries) c.args.url.now =
     c.in_ok-entry.ensures ∙ ap (λ (t : Tree). start_entry (rules_of c.args.session.now) t c.args.url.now) c.args.self.now.same in
     subst (λ (x : Entry). admits (tree_of c.args.self.now.log.entries) x ≡ true) (sym e) (start_admitted (rules_of c.args.session.now) c.args.self.now.log.entries c.args.url.now c.requires.few)
+
+pub append-requires-clause-quiet : goal.append-requires-clause-quiet
+append-requires-clause-quiet g c =
+    let e : c.in_ok-entry.entry ≡ start_entry (rules_of c.args.session.now) (tree_of c.args.self.now.log.entries) c.args.url.now =
+    c.in_ok-entry.ensures ∙ ap (λ (t : Tree). start_entry (rules_of c.args.session.now) t c.args.url.now) c.args.self.now.same in
+    ap (λ (x : Entry). is_quiet x.what) e

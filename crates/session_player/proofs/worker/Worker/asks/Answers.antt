@@ -1,6 +1,5 @@
-use Rattle.std.proofs.Common.{◌∙◌, ◌++◌, ◌∷◌, [], refl, sym, ap, subst, reverse}
+use Rattle.std.proofs.Common.{◌∙◌, ◌++◌, ◌∷◌, [], refl, sym, ap, reverse}
 use Rattle.std.specs.Option.{option_map}
-use Rattle.single_agent.specs.declared.act.Point.TheVariants.{Script}
 use Rattle.single_agent.specs.declared.act.Act.TheVariants.{Step as StepAct}
 use Rattle.single_agent.specs.Decision.{rules_of, asked}
 use Rattle.single_agent.specs.Registers.{value_in, written_to, to_of}
@@ -39,7 +38,7 @@ returns-then-not-is_there-clause-asks g c = λ asker tied left same.
     let decided = (asked (rules_of c.args.session.now) l.log r c.args.request).outcome in
     let answer = c.answer_of-answer.ensures.value decided serves.replies ∙ ap (λ o. answer_of o decided) c.name_of-op.ensures in
     let there : IsValueThere v.tree (value_in c.answer_of-answer.result) =
-    subst (λ a. IsValueThere v.tree (value_in a)) (sym answer) (answer_there c.args.session.now r (op_of c.args.step.now) c.args.request c.in-Answered.reply c.in-Answered.told v.tree l m c.requires.made serves all.tree decided refl) in
+    answer_there c.args.session.now r (op_of c.args.step.now) c.args.request c.in-Answered.reply c.in-Answered.told v.tree l m c.requires.made serves all.tree decided c.answer_of-answer.result refl answer in
     c.is_there.ensures.no c.if-not-is_there.true there
 
 pub returns-in_ok-keep-in-Answered-clause-asks : goal.returns-in_ok-keep-in-Answered-clause-asks
@@ -55,9 +54,9 @@ returns-in_ok-keep-in-Answered-clause-asks g c = λ asker tied left same.
     let all : HeardAll r l v m =
     heard_all r w v l m (asked (rules_of c.args.session.now) l.log r c.args.request).entries c.in-Answered.told tied serves.log serves.tells (c.keep.ensures.tree ∙ h.tree c.if-not-branch.false) (c.keep.ensures.urls ∙ h.urls c.if-not-branch.false) (c.keep.ensures.heard ∙ h.heard c.if-not-branch.false) in
     let given = c.answer_of-answer.result in
-    asked_acted c.args.session.now r c.args.run.doc (Script c.args.run.made) (op_of c.args.step.now) c.args.request c.in-Answered.reply c.in-Answered.told given (left_at c.args.run c.args.step.now) c.hear.new.self.acts.items c.keep.new.self.acts.items c.hear.new.self.heard w v l m
+    asked_acted c.args.session.now r c.args.run.doc c.args.run.point (op_of c.args.step.now) c.args.request c.in-Answered.reply c.in-Answered.told given (left_at c.args.run c.args.step.now) c.hear.new.self.acts.items c.keep.new.self.acts.items c.hear.new.self.heard w v l m
     c.requires.made serves all (λ o is. c.answer_of-answer.ensures.value o is ∙ ap (λ n. answer_of n o) c.name_of-op.ensures)
-    (sym (ap reverse h.acts)) refl (k.acts ∙ ap (λ n. c.hear.new.self.acts.items ++ StepAct c.hear.new.self.heard c.args.run.doc (Script c.args.run.made) n given ∷ []) c.name_of-op.ensures)
+    (sym (ap reverse h.acts)) refl (k.acts ∙ ap (λ n. c.hear.new.self.acts.items ++ StepAct c.hear.new.self.heard c.args.run.doc c.args.run.point n given ∷ []) c.name_of-op.ensures)
     (sym c.keep.ensures.heard) (k.run ∙ ap (option_map one_more) h.run) left
     (k.registers ∙ ap (λ to. written_to c.args.run.doc to (value_in given) (kept c.hear.new.self.registers)) c.target_of.ensures ∙ ap (written_to c.args.run.doc (to_of c.args.step.now) (value_in given)) h.registers)
     (k.stores ∙ h.stores) same

@@ -1,8 +1,8 @@
 use Rattle.std.proofs.Common.{◌≡◌, refl, sym, ap, ◌∙◌, reverse, [], ◌∷◌, ◌++◌, arith}
 use Rattle.std.proofs.lemmas.Grind.{common_steps}
 use Rattle.single_agent.specs.declared.act.Act.TheVariants.{Task}
-use Rattle.single_agent.specs.declared.act.TaskKind.TheVariants as kind
 use Rattle.single_agent.specs.NextTask.{task_entry}
+use Rattle.single_agent.specs.NextAct.{starts}
 use Rattle.script_steps.specs.Kept.{kept}
 use Rattle.script_steps.specs.Stored.{stored}
 use Rattle.session_player.specs.Serves.{Ledger, ledger}
@@ -20,7 +20,7 @@ returns-then-not-branch-clause-takes g c = λ tied.
 pub returns-then-not-branch-2-clause-takes : goal.returns-then-not-branch-2-clause-takes
 returns-then-not-branch-2-clause-takes g c = λ tied.
     let serves = rw c.in-Task.is at c.in_ok-next.ensures.serves in
-    hears_all c.args.self.now.renderer _ _ (ledger c.next.new.self.log.entries c.next.new.self.told.items) (task_entry c.args.self.now.renderer serves.1 ∷ []) c.in-Task.told c.in_ok-hear-in-Task.field-0 tied serves.3 serves.5
+    hears_all c.args.self.now.renderer _ _ (ledger c.next.new.self.log.entries c.next.new.self.told.items) (task_entry c.args.self.now.renderer serves.1 ∷ []) c.in-Task.told c.in_ok-hear-in-Task.field-0 tied serves.4 serves.6
     c.next.new.self.admitted (rw c.deref-in-Task.ensures.value at c.in_ok-hear-in-Task.ensures.all) c.if-not-branch-2.true
 
 pub returns-else-not-branch-clause-takes : goal.returns-else-not-branch-clause-takes
@@ -47,8 +47,11 @@ returns-in_ok-push-in-Task-clause-takes g c = λ tied.
     let l : Ledger = ledger c.args.desk.now.log.entries c.args.desk.now.told.items in
     let m : Ledger = ledger c.next.new.self.log.entries c.next.new.self.told.items in
     let all : HeardAll r l v m =
-    heard_all r w v l m (task_entry r serves.1 ∷ []) c.in-Task.told tied serves.3 serves.5 (h.tree c.if-not-branch-2.false) (h.urls c.if-not-branch-2.false) (h.heard c.if-not-branch-2.false) in
-    let last = task_last r w l m serves.1 c.in-Task.told tied serves.3 serves.5 in
-    let run = c.started-self.ensures.value last.0 (task_entry r serves.1) (c.deref-in-Task-2.ensures.value ∙ last.1) (started_there r w v l m serves.1 tied serves.0 serves.2 serves.3 all) in
-    let pushed : c.push.new.self.items ≡ c.hear-in-Task.new.self.acts.items ++ Task c.hear-in-Task.new.self.heard kind.Commit c.in-Task.place ∷ [] = grind (arith, common_steps) in
-    took_task r w v l m serves.1 c.hear-in-Task.new.self.acts.items c.push.new.self.items c.hear-in-Task.new.self.heard c.in-Task.place kind.Commit serves.0 serves.2 serves.3 all (sym (ap reverse h.acts)) refl pushed refl serves.4 refl run h.registers h.stores
+    heard_all r w v l m (task_entry r serves.1 ∷ []) c.in-Task.told tied serves.4 serves.6 (h.tree c.if-not-branch-2.false) (h.urls c.if-not-branch-2.false) (h.heard c.if-not-branch-2.false) in
+    let last = task_last r w l m serves.1 c.in-Task.told tied serves.4 serves.6 in
+    let run = c.started-self.ensures.value last.0 (task_entry r serves.1) (c.deref-in-Task-2.ensures.value ∙ last.1) (started_there r c.in-Task.place w v l m serves.1 tied serves.0 serves.2 serves.3 serves.4 all)
+    ∙ ap (λ k. starts k serves.1) serves.5 in
+    let kind = c.kind_of.ensures last.0 (task_entry r serves.1) (c.deref-in-Task-3.ensures.value ∙ last.1) in
+    let pushed : c.push.new.self.items ≡ c.hear-in-Task.new.self.acts.items ++ Task c.hear-in-Task.new.self.heard c.kind_of.result c.in-Task.place ∷ [] = grind (arith, common_steps) in
+    took_task r w v l m serves.1 c.hear-in-Task.new.self.acts.items c.push.new.self.items c.hear-in-Task.new.self.heard c.in-Task.place c.kind_of.result serves.0 serves.2 serves.3 serves.4 all
+    (sym (ap reverse h.acts)) refl pushed refl serves.5 kind run h.registers h.stores
