@@ -1,2 +1,4 @@
 pub mod Messages
+pub mod Shop
 pub mod Cited
+pub mod OldDocuments

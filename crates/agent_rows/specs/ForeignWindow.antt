@@ -128,6 +128,19 @@ pub refuses_index : got_at with_then 1 (codes "1") ≡ outcome.Security S2
 unfolding got_at
 refuses_index = refl
 
+-- an index is a canonical decimal up to 4294967294; any other text is a key that a foreign window doesn't show
+pub refuses_last_index : got_at with_then 1 (codes "4294967294") ≡ outcome.Security S2
+unfolding got_at
+refuses_last_index = refl
+
+pub refuses_after_last_index : got_at with_then 1 (codes "4294967295") ≡ outcome.Security S1
+unfolding got_at
+refuses_after_last_index = refl
+
+pub refuses_leading_zero : got_at with_then 1 (codes "00") ≡ outcome.Security S1
+unfolding got_at
+refuses_leading_zero = refl
+
 -- at its own window one out of range is undefined
 pub gets_own_child : got_at framed 0 (codes "0") ≡ outcome.Value (value.Window 1)
 unfolding got_at

@@ -5,3 +5,7 @@ pub mod NamedChildren
 pub mod Navigating
 pub mod Coordinator
 pub mod Blanking
+pub mod Trees
+pub mod Tasks
+pub mod Shop
+pub mod Losses

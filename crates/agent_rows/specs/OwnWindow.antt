@@ -24,3 +24,12 @@ gets_own_colour = refl
 pub gets_own_close : got_at framed 0 (codes "close") ≡ outcome.Value (value.Function method.Close (object.Window 1))
 unfolding got_at
 gets_own_close = refl
+
+-- no child stands at the greatest index, nor under what is no index
+pub gets_own_last_index : got_at framed 0 (codes "4294967294") ≡ outcome.Value undefined
+unfolding got_at
+gets_own_last_index = refl
+
+pub gets_own_after_last_index : got_at framed 0 (codes "4294967295") ≡ outcome.Value undefined
+unfolding got_at
+gets_own_after_last_index = refl

@@ -1,19 +1,25 @@
 //! Worked rows: what the definitions of `single_agent` and `tree_log` give on small logs, each computed.
 //!
-//! The rows stand in `specs/`, and those on messages in `proofs/`, a file for each topic. Nothing here runs, and nothing stands on this crate.
+//! The rows stand in `specs/`, a file for each topic; those on the texts of targets and on a whole log, which need lemmas,
+//! in `proofs/`. Nothing here runs, and nothing stands on this crate.
 #![tactic(auto)]
 
 ghost use Rattle.agent_rows.specs.Blanking.{message, sandboxed};
 ghost use Rattle.agent_rows.specs.Coordinator.{answered, only, two_groups, posting, home_of_new};
-ghost use Rattle.agent_rows.specs.ForeignWindow.{got_at, with_then};
+ghost use Rattle.agent_rows.specs.ForeignWindow.{got_at, with_then, taken_out};
 ghost use Rattle.agent_rows.specs.Logs.{site, a_test, framed};
 ghost use Rattle.agent_rows.specs.NamedChildren.{reached, two_frames, first_is_own};
 ghost use Rattle.agent_rows.specs.Navigating.{chosen, two_windows, goes, some_words};
 ghost use Rattle.agent_rows.specs.Navigating as navigating;
+ghost use Rattle.agent_rows.specs.Shop.{shop, shop_log};
+ghost use Rattle.agent_rows.specs.Tasks.{posted_for, replaced_for, heard, closing};
 ghost use Rattle.single_agent.specs.Decision.{one};
+ghost use Rattle.single_agent.specs.LegalLog.{IsLegalLog};
 ghost use Rattle.single_agent.specs.Methods.{posted};
 ghost use Rattle.single_agent.specs.Navigation.{New};
 ghost use Rattle.single_agent.specs.NextAct.{shown_to};
+ghost use Rattle.single_agent.specs.NextTask.{next_task};
+ghost use Rattle.single_agent.specs.Values.{text};
 ghost use Rattle.single_agent.specs.declared.outcome.Outcome.TheVariants as outcome;
 ghost use Rattle.single_agent.specs.declared.outcome.Rule.TheVariants.{S1, S2};
 ghost use Rattle.single_agent.specs.declared.request.ReplyOutcome.TheVariants as reply;
@@ -21,12 +27,16 @@ ghost use Rattle.single_agent.specs.declared.request.Request.TheVariants as ask;
 ghost use Rattle.std.specs.Prelude.{◌≡◌, ◌∷◌, [], Some, None, false, codes};
 ghost use Rattle.tree_log.specs.Admits.{AreAdmitted};
 ghost use Rattle.tree_log.specs.Blanking.{hidden};
+ghost use Rattle.tree_log.specs.Tree.{tree_of};
 ghost use Rattle.tree_log.specs.Urls.{url_of};
+ghost use Rattle.tree_log.specs.declared.entry.Cause.TheVariants as causes;
+ghost use Rattle.tree_log.specs.declared.entry.Target.{Target};
+ghost use Rattle.tree_log.specs.declared.entry.Target.TheVariants as targets;
 ghost use Rattle.tree_log.specs.declared.entry.What.TheVariants as what;
 ghost use Rattle.window_props.specs.declared.value.Value.TheVariants as value;
 
 /// It does nothing: its contract is a row or two of each file.
-#[tactic(auto, using(crate::proofs::Cited::foreign_rows, crate::proofs::Cited::coordinator_rows, crate::proofs::Cited::shown_rows))]
+#[tactic(auto, using(crate::proofs::Cited::foreign_rows, crate::proofs::Cited::coordinator_rows, crate::proofs::Cited::shown_rows, crate::proofs::Cited::task_rows))]
 pub fn rows()
     ensures admitted { AreAdmitted framed }
     ensures parent { got_at framed 1 (codes "parent") ≡ outcome.Value (value.Window 0) }
@@ -42,5 +52,12 @@ pub fn rows()
     ensures home { home_of_new (site (codes "c.test")) ≡ 2 }
     ensures no_argument { posted a_test 3 [] ≡ outcome.TypeFault }
     ensures hidden_message { shown_to 1 (message ∷ framed) ≡ hidden ∷ shown_to 1 framed }
+    ensures still_shown { ((tree_of taken_out).nav 1).active ≡ 3 }
+    ensures fires { next_task (posted_for targets.Any) 1 ≡ Some (what.Fire 3 4) }
+    ensures lapses_by_origin { next_task (posted_for (targets.Origin a_test)) 1 ≡ Some (what.Lapse 3 4 causes.Origin) }
+    ensures lapses_where_replaced { (target : Target) → next_task (replaced_for target) 1 ≡ Some (what.Lapse 3 4 causes.Inactive) }
+    ensures message_origin { heard (codes "origin") ≡ text (codes "https://a.test") }
+    ensures closes { next_task closing 1 ≡ Some (what.Gone 1) }
+    ensures whole_log { IsLegalLog shop shop_log }
     ensures hidden_url { url_of (shown_to 1 sandboxed) 3 ≡ codes "about:blank" }
 {}
