@@ -1,7 +1,7 @@
 // Rows of define, set, delete, describe and keys on an ordinary object, with node's own answers
 // (Reflect.defineProperty, Reflect.set, Reflect.deleteProperty, Reflect.getOwnPropertyDescriptor, Reflect.ownKeys).
 // A row is a line of calls parted by `; `, and its answers are a line of the same form.
-//   node tools/property-rows.js write | check      the files are crates/property_rows/stdin and stdout
+//   node tools/property-rows.js write | check      in crates/property_rows/stdin and stdout, below the heading `# node`
 'use strict';
 const fs = require('fs');
 const path = require('path');
@@ -87,12 +87,22 @@ const answers = rows.map((row) => {
   const object = {};
   return row.split('; ').map((call) => answer(object, call)).join('; ');
 });
-const files = { stdin: rows.join('\n') + '\n', stdout: answers.join('\n') + '\n' };
+
+// The text with these lines in place of those between the heading `# node` and the next heading.
+function replaced(text, lines) {
+  const old = text.split('\n');
+  const start = old.findIndex((line) => line.startsWith('# node')) + 1;
+  const length = old.slice(start).findIndex((line) => line.startsWith('#'));
+  return [...old.slice(0, start), ...lines, ...old.slice(start + length)].join('\n');
+}
+
 let differs = 0;
-for (const [name, text] of Object.entries(files)) {
+for (const [name, lines] of Object.entries({ stdin: rows, stdout: answers })) {
   const file = path.join(folder, name);
-  if (process.argv[2] === 'write') fs.writeFileSync(file, text);
-  else if (fs.readFileSync(file, 'utf8') !== text) { console.log(`${file} isn't what node gives`); differs = 1; }
+  const text = fs.readFileSync(file, 'utf8');
+  const want = replaced(text, lines);
+  if (process.argv[2] === 'write') fs.writeFileSync(file, want);
+  else if (text !== want) { console.log(`${file} isn't what node gives`); differs = 1; }
 }
 console.log(`${rows.length} rows of calls on ordinary objects`);
 process.exit(differs);

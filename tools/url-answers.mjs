@@ -1,10 +1,10 @@
-// What node's `URL` answers on a table of texts, for the tests of origin_core.
+// What node's `URL` answers to a table of texts: the rows of crates/url_rows below the heading that begins `# node`.
 //
-//   node tools/url-answers.mjs write   writes the table into crates/origin_core/src/tests/answers.rt
-//   node tools/url-answers.mjs check   exits 1 where the table there differs
+//   node tools/url-answers.mjs write   writes these rows, and leaves the others
+//   node tools/url-answers.mjs check   exits 1 where they differ
 import { readFileSync, writeFileSync } from "node:fs";
 
-const file = new URL("../crates/origin_core/src/tests/answers.rt", import.meta.url);
+const file = (name) => new URL(`../crates/url_rows/${name}`, import.meta.url);
 const page = "https://a.test/x/y?q#f";
 
 const alone = [
@@ -37,9 +37,6 @@ const against = [
   [page, "https:z"], [page, "http:z"], [page, "\\z"], [page, "about:blank"], [page, ".."], [page, "https://b.test"],
   [page, "data:,x"], [page, "//"], ["about:blank", "#y"], ["about:blank", "z"], ["about:blank#x", "https://a.test"],
 ];
-// The URL Standard's text of November 2026 answers these otherwise than node 20: an ASCII domain is
-// lower-cased whatever its `xn--` labels say, and a path escapes `^`.
-const newer = [["", "https://XN--/", "https://xn--/"], ["", "https://a.test/^?^#^", "https://a.test/%5E?^#^"]];
 // a text, and what follows it so many times
 const long = [
   ["https://a.test/", "a", 1009], ["https://a.test/", "a", 1010], ["https://a.test/b", "é", 168], ["https://a.test/bb", "é", 168],
@@ -47,47 +44,47 @@ const long = [
   ["about:blank#", "a", 1013], ["data:,", "a", 1018], ["data:,", "a", 1019], ["https://a.test/", "./", 500],
 ];
 
-// the serialization, or why no page has the URL
+// the serialization, or its length where it is over 99 bytes, or why no page has the URL
 function answer(base, text) {
-  if (Buffer.byteLength(text) > 1024) return "NotAUrl";
+  if (Buffer.byteLength(text) > 1024) return "not a URL";
   let url;
   try {
     url = base === "" ? new URL(text) : new URL(text, base);
   } catch {
-    return "NotAUrl";
+    return "not a URL";
   }
   const web = url.protocol === "http:" || url.protocol === "https:";
   const blank = url.href.split("#")[0] === "about:blank";
-  if (!web && !blank) return "SchemeOut";
-  return Buffer.byteLength(url.href) > 1024 ? "NotAUrl" : url.href;
+  if (!web && !blank) return "a URL with a scheme that no page has";
+  const length = Buffer.byteLength(url.href);
+  if (length > 1024) return "not a URL";
+  return length > 99 ? `${length} bytes` : url.href;
 }
 
-function escaped(text) {
-  return text.replace(/\\/g, "\\\\").replace(/"/g, '\\"').replace(/\t/g, "\\t").replace(/\n/g, "\\n");
+// a text as a row writes it: `␠`, `␉` and `␊` for white space that would not be seen
+function written(text) {
+  return text.replace(/\t/g, "␉").replace(/\n/g, "␊").replace(/^ +| +$/g, (spaces) => "␠".repeat(spaces.length));
 }
 
-const asked = [...alone.map((text) => ["", text]), ...against].map(([base, text]) => [base, text, answer(base, text)]);
-const longs = long.map(([front, more, times]) => {
-  const said = answer("", front + more.repeat(times));
-  return [front, more, times, said === "NotAUrl" || said === "SchemeOut" ? said : Buffer.byteLength(said)];
-});
-const lines = (rows) => rows.map((row) => escaped(row.join("|"))).join(";\n");
-const table = `//! What node's \`URL\` answers, as tools/url-answers.mjs wrote it. Rows end with a semicolon and a
-//! new line, and their parts with a bar.
+const asked = [...alone.map((text) => ["", text]), ...against];
+const rows = [
+  ...asked.map(([base, text]) => [`read|${base}|${written(text)}`, answer(base, text)]),
+  ...long.map(([front, more, times]) => [`read||${written(front)}*${more}*${times}`, answer("", front + more.repeat(times))]),
+];
 
-/// A base, or nothing; a text; and the page's URL or the error.
-pub const ANSWERS: &str = "\
-${lines([...asked, ...newer])}";
+// The lines with the rows in place of those between the heading `# node` and the next heading.
+function replaced(lines, rows) {
+  const start = lines.findIndex((line) => line.startsWith("# node")) + 1;
+  const length = lines.slice(start).findIndex((line) => line.startsWith("#"));
+  return [...lines.slice(0, start), ...rows, ...lines.slice(start + length)];
+}
 
-/// A text, what follows it and how often; and the length of the page's URL or the error.
-pub const LONG: &str = "\
-${lines(longs)}";
-`;
-
-// the layout is the formatter's
-const plain = (text) => text.replace(/\s+/g, "").replace(/,([)\]])/g, "$1");
-if (process.argv[2] === "write") writeFileSync(file, table);
-else if (plain(readFileSync(file, "utf8")) !== plain(table)) {
-  console.error("crates/origin_core/src/tests/answers.rt differs from node's answers");
-  process.exit(1);
+for (const [place, name] of ["stdin", "stdout"].entries()) {
+  const text = readFileSync(file(name), "utf8");
+  const want = replaced(text.split("\n"), rows.map((row) => row[place])).join("\n");
+  if (process.argv[2] === "write") writeFileSync(file(name), want);
+  else if (text !== want) {
+    console.error(`crates/url_rows/${name} differs from node's answers`);
+    process.exit(1);
+  }
 }

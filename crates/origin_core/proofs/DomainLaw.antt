@@ -97,7 +97,7 @@ step_grows : (host : List ℕ) (len : ℕ) (suffix : List ℕ) → len ≤ longe
 step_grows host len suffix =
     cond_both (has_suffix host suffix && nat_lt len (length suffix)) (length suffix) len (λ n. len ≤ n) (λ yes. let more = (and_parts (has_suffix host suffix) (nat_lt len (length suffix)) yes).1 in grind (arith, nat_tests)) (λ _. omega arith)
 
-grows : (host : List ℕ) (len : ℕ) (suffixes : List (List ℕ)) → len ≤ fold (longer host) len suffixes
+pub grows : (host : List ℕ) (len : ℕ) (suffixes : List (List ℕ)) → len ≤ fold (longer host) len suffixes
 grows host len [] = omega arith
 grows host len (suffix ∷ suffixes) = omega (arith, step_grows host len suffix, grows host (longer host len suffix) suffixes)
 
@@ -131,7 +131,7 @@ dot_first : (xs : List ℕ) → 0 < length xs → get_or xs 0 0 ≡ dot → pref
 dot_first [] some first = absurd (omega arith)
 dot_first (x ∷ xs) some first = cond-false _ _ _ (ap is_in_label first)
 
-same_label : (front value : List ℕ) → 0 < length front → get_or front (length front - 1) 0 ≡ dot → last_label_len (front ++ value) ≡ last_label_len value
+pub same_label : (front value : List ℕ) → 0 < length front → get_or front (length front - 1) 0 ≡ dot → last_label_len (front ++ value) ≡ last_label_len value
 same_label front value some stop =
     let at : length front - 1 - 0 ≡ length front - 1 = omega arith in
     let first = get_or-reverse front 0 0 some ∙ ap (λ k. get_or front k 0) at ∙ stop in

@@ -9,3 +9,4 @@ pub mod PortLaw
 pub mod FlagLaws
 pub mod ReadBack
 pub mod DomainLaw
+pub mod SuffixLaw

@@ -1,7 +1,7 @@
 -- Sites, by a list of public suffixes (HTML Standard, section 7.1.1.1, "obtain a site"; URL
 -- Standard, section 3.2, "registrable domain").
-use Rattle.std.specs.Prelude.{◌≡◌, ℕ, ◌-◌, ◌<◌, ◌≤◌, Bool, true, false, not, ◌&&◌, ◌||◌, ◌==◌, nat_eq, nat_lt, bytes_eq, List, [], ◌∷◌, length, codes, refl, take, drop, fold, slice_index, Option, Some, None, option_map, unwrap_or, if◌then◌else◌}
-use Rattle.std.specs.List.{ends_with, suffix_len}
+use Rattle.std.specs.Prelude.{◌≡◌, ℕ, ◌-◌, ◌<◌, ◌≤◌, Bool, true, false, not, ◌&&◌, ◌||◌, ◌==◌, nat_eq, nat_lt, bytes_eq, ◌⊎◌, List, [], ◌∷◌, ◌++◌, Contains, length, codes, refl, take, drop, fold, slice_index, Option, Some, None, option_map, unwrap_or, if◌then◌else◌}
+use Rattle.std.specs.List.{ends_with, suffix_len, list_all}
 use Rattle.origin_core.specs.declared.origin.Origin.{Origin}
 use Rattle.origin_core.specs.declared.origin.Origin.TheVariants.{Tuple, Opaque}
 use Rattle.origin_core.specs.declared.site.Site.{Site}
@@ -37,10 +37,12 @@ public_suffix_len host suffixes =
     let listed = listed_len host suffixes in
     if listed == 0 then last_label_len host else listed
 
+abbrev pub ends_in_dot : List ℕ → Bool
+ends_in_dot host = slice_index host (length host - 1) == dot
+
 -- the host is an address, ends in a dot, or is a suffix itself
 abbrev pub is_unregistered : List ℕ → Bool → ℕ → Bool
-is_unregistered host ip suffix =
-    ip || slice_index host (length host - 1) == dot || not (nat_lt suffix (length host))
+is_unregistered host ip suffix = ip || ends_in_dot host || not (nat_lt suffix (length host))
 
 -- where the last label begins in what stands before the suffix and its dot
 abbrev pub label_start : List ℕ → ℕ → ℕ
@@ -78,6 +80,32 @@ suffix_itself = refl
 
 pub address_site : site_host (codes "127.0.0.1") true [] ≡ codes "127.0.0.1"
 address_site = refl
+
+-- ---- public suffixes in words (URL Standard, section 3.2)
+
+-- one of the listed suffixes, which the host has, and no longer one
+pub record IsLongestListed (host : List ℕ) (suffixes : List (List ℕ)) (suffix : List ℕ) : Type 0 where
+  pub listed : Contains suffixes suffix
+  pub had : has_suffix host suffix ≡ true
+  pub longest : (other : List ℕ) → Contains suffixes other → has_suffix host other ≡ true → length other ≤ length suffix
+
+abbrev pub HasNoneListed : List ℕ → List (List ℕ) → Type 0
+HasNoneListed host suffixes = (other : List ℕ) → Contains suffixes other → has_suffix host other ≡ true → other ≡ []
+
+abbrev pub IsLastLabel : List ℕ → List ℕ → Type 0
+IsLastLabel host label = (list_all is_in_label label ≡ true) × (has_suffix host label ≡ true)
+
+-- the public suffix of a host: the longest listed, or the last label where none is listed
+abbrev pub IsPublicSuffix : List ℕ → List (List ℕ) → List ℕ → Type 0
+IsPublicSuffix host suffixes suffix =
+    (IsLongestListed host suffixes suffix × (0 < length suffix)) ⊎ (HasNoneListed host suffixes × IsLastLabel host suffix)
+
+-- the domain is one label, a dot and the suffix, and the host is it or ends with a dot and it
+pub record IsLabelAbove (host suffix domain : List ℕ) : Type 0 where
+  pub label : List ℕ
+  pub one : list_all is_in_label label ≡ true
+  pub is : domain ≡ label ++ dot ∷ suffix
+  pub ends : has_suffix host domain ≡ true
 
 -- ---- domains of documents (HTML Standard, section 7.1.1.2, "relaxing the same-origin restriction")
 

@@ -1,6 +1,6 @@
 //! Laws of the definitions: each is the contract of an empty function.
 
-ghost use Rattle.std.specs.Prelude.{◌≡◌, ◌↔◌, ◌||◌, ℕ, Bool, true, List, Some, Ok, IfSome};
+ghost use Rattle.std.specs.Prelude.{◌≡◌, ◌↔◌, ◌||◌, ℕ, Bool, true, false, List, Some, Ok, IfSome};
 ghost use Rattle.url.specs.Parts.{Parts, serialize};
 ghost use Rattle.origin_core.specs.declared.origin.Origin.{Origin};
 ghost use Rattle.origin_core.specs.declared.origin.Origin.TheVariants.{Tuple};
@@ -8,7 +8,8 @@ ghost use Rattle.origin_core.specs.Origin.{is_same_origin, is_same_origin_domain
 ghost use Rattle.origin_core.specs.Page.{IsPageRecord, IsPageText, page_spelled, read_page};
 ghost use Rattle.origin_core.specs.Tuple.{TupleParts, IsTuple, is_own_port, within_limit};
 ghost use Rattle.origin_core.specs.Host.{IsHost, host_kind};
-ghost use Rattle.origin_core.specs.Site.{site_host, fits, IsDomainOf};
+ghost use Rattle.origin_core.specs.declared.site.Site.TheVariants.{Named};
+ghost use Rattle.origin_core.specs.Site.{site_host, site_of, ends_in_dot, fits, IsDomainOf, IsPublicSuffix, IsLabelAbove};
 ghost use Rattle.origin_core.specs.Flags as flags;
 
 /// "Same origin" is an equivalence, namely equality.
@@ -57,6 +58,17 @@ pub fn a_domain_stays_on_its_site()
     ensures step { (value effective : List ℕ) (ip : Bool) (suffixes : List (List ℕ)) → fits value effective ip suffixes ≡ true → site_host value ip suffixes ≡ site_host effective ip suffixes }
     ensures steps { (host : List ℕ) (ip : Bool) (suffixes : List (List ℕ)) (domain : List ℕ) → IsDomainOf host ip suffixes domain → site_host domain ip suffixes ≡ site_host host ip suffixes }
     ensures one_site { (suffixes : List (List ℕ)) (domain a b : List ℕ) (a_ip b_ip : Bool) → IsHost a a_ip → IsHost b b_ip → IsDomainOf a a_ip suffixes domain → IsDomainOf b b_ip suffixes domain → site_host a a_ip suffixes ≡ site_host b b_ip suffixes }
+{}
+
+/// The site of a domain is one label, a dot and the domain's public suffix: the longest listed one, or where none is listed
+/// its last label. A domain that is its public suffix, a domain that ends in a dot, and an address are their own site.
+pub fn a_site_is_a_label_above_a_public_suffix()
+    ensures suffix { (host : List ℕ) (suffixes : List (List ℕ)) → (suffix : List ℕ) × IsPublicSuffix host suffixes suffix }
+    ensures above { (t : TupleParts) (suffixes : List (List ℕ)) (suffix : List ℕ) → t.ip ≡ false → ends_in_dot t.host ≡ false → IsPublicSuffix t.host suffixes suffix → (t.host ≡ suffix → ⊥)
+        → (domain : List ℕ) × (site_of (Tuple t) suffixes ≡ Named t.scheme domain) × IsLabelAbove t.host suffix domain }
+    ensures itself { (t : TupleParts) (suffixes : List (List ℕ)) → t.ip ≡ false → IsPublicSuffix t.host suffixes t.host → site_of (Tuple t) suffixes ≡ Named t.scheme t.host }
+    ensures dotted { (t : TupleParts) (suffixes : List (List ℕ)) → ends_in_dot t.host ≡ true → site_of (Tuple t) suffixes ≡ Named t.scheme t.host }
+    ensures address { (t : TupleParts) (suffixes : List (List ℕ)) → t.ip ≡ true → site_of (Tuple t) suffixes ≡ Named t.scheme t.host }
 {}
 
 /// A union has the flags of either set.

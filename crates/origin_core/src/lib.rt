@@ -26,6 +26,3 @@ pub use crate::origin::{
 };
 pub use crate::page::{PageUrl, UrlError, page_spelled, read_url, same_but_fragment};
 pub use crate::site::{Site, fits, registrable_domain, same_site, site_of};
-
-#[cfg(test)]
-mod tests;

@@ -10,8 +10,6 @@
 mod ascending;
 mod data;
 mod items;
-#[cfg(test)]
-mod tests;
 mod text;
 mod writing;
 

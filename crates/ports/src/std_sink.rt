@@ -28,11 +28,30 @@ impl<W: Write> StdSink<W> {
 }
 
 impl<W: Write> Sink for StdSink<W> {
+    ghost use Rattle.std.specs.Prelude.{◌≡◌, ◌<◌, length, IfOk, OnErr};
+    ghost use Rattle.std.specs.Io.{WritesAtMost};
+    ghost use Rattle.std.specs.Io.KnownBytes.{WriteAppends};
+    ghost use Rattle.ports.specs.Causes.{HasCause, StopsWithCause, counted};
+    ghost use Rattle.ports.specs.Streams.{writer, writer_faults};
+
     ghost taken = { λ sink. W.contents (writer sink) };
 
     ghost faults = { λ sink. writer_faults sink };
 
-    fn write(&mut self, piece: &[u8]) -> Result<usize, Failed> {
+    /// Hands the piece to the writer, and takes what it takes.
+    fn write(&mut self, piece: &[u8]) -> Result<usize, Failed>
+        ensures bound { WritesAtMost result piece.now }
+        ensures bytes { WriteAppends (W.contents (writer self.old)) (W.contents (writer self.new)) result piece.now }
+        ensures cause { HasCause (writer_faults self.old) (writer_faults self.new) result }
+        ensures stop { StopsWithCause (writer_faults self.old) (writer_faults self.new) result piece.now }
+
+        // The count rises exactly at a failure, and where nothing is taken of a nonempty piece.
+        ensures failed { OnErr result (writer_faults self.new ≡ counted (writer_faults self.old)) }
+        ensures took_none { IfOk result (λ count. count ≡ 0 → 0 < length piece.now
+            → writer_faults self.new ≡ counted (writer_faults self.old)) }
+        ensures took_some { IfOk result (λ count. (count ≡ 0 → length piece.now ≡ 0)
+            → writer_faults self.new ≡ writer_faults self.old) }
+    {
         match self.inner.write(piece) {
             Ok(count) => {
                 if count == 0 && !piece.is_empty() {

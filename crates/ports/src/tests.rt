@@ -10,6 +10,7 @@ use crate::{
 use std::alloc::{AllocError, Global};
 use std::io;
 use std::io::{ErrorKind, Read, Write};
+use std::process::Abort;
 use std::test::Fail;
 
 /// The bytes 0, 1, .. of this length, which begin again after 250.
@@ -43,9 +44,8 @@ fn write_memory(alloc: Global, bytes: &[u8]) -> Result<MemorySink, AllocError>
     Ok(sink)
 }
 
-#[test]
-fn reads_to_the_limit(rt: HostRuntime) -> Result<(), Fail> {
-    let alloc = rt.alloc();
+/// Reads at a limit and beside it.
+fn check_limits(rt: &impl Abort, alloc: Global) -> Result<(), Fail> {
     let five = some_bytes(alloc, 5)?;
     assert_eq!(rt;
         read_memory(alloc, some_bytes(alloc, 5)?, 5)?.as_slice(),
@@ -90,9 +90,8 @@ fn reads_to_the_limit(rt: HostRuntime) -> Result<(), Fail> {
     Ok(())
 }
 
-#[test]
-fn fails_at_each_call(rt: HostRuntime) -> Result<(), Fail> {
-    let alloc = rt.alloc();
+/// Faults in memory, at each call in turn.
+fn check_faults(rt: &impl Abort, alloc: Global) -> Result<(), Fail> {
     // Nine thousand bytes are three pieces and an end.
     for (call, fails) in [(1, true), (2, true), (3, true), (4, true), (5, false)] {
         let mut source = MemorySource::new(some_bytes(alloc, 9000)?, vec![in alloc; call]?);
@@ -186,8 +185,13 @@ impl Write for Halting {
 }
 
 #[test]
-fn reads_from_std(rt: HostRuntime) -> Result<(), Fail> {
-    let alloc = rt.alloc();
+fn reads_and_writes_in_memory(rt: HostRuntime) -> Result<(), Fail> {
+    check_limits(&rt, rt.alloc())?;
+    check_faults(&rt, rt.alloc())
+}
+
+/// Reads a stream that fails at each call in turn.
+fn check_reads(rt: &impl Abort, alloc: Global) -> Result<(), Fail> {
     let text = b"abcde";
     assert_eq!(rt;
         read_all(alloc, &mut StdSource::new(text.as_slice()), 5)?.as_slice(),
@@ -214,9 +218,8 @@ fn reads_from_std(rt: HostRuntime) -> Result<(), Fail> {
     Ok(())
 }
 
-#[test]
-fn writes_to_std(rt: HostRuntime) -> Result<(), Fail> {
-    let alloc = rt.alloc();
+/// Writes to a stream that fails at each call in turn, and to one that is full.
+fn check_writes(rt: &impl Abort, alloc: Global) -> Result<(), Fail> {
     let mut bytes = Vec::new(alloc);
     write_all_of(&mut StdSink::new(&mut bytes), b"abcde")?;
     assert_eq!(rt; bytes.as_slice(), b"abcde".as_slice());
@@ -242,4 +245,10 @@ fn writes_to_std(rt: HostRuntime) -> Result<(), Fail> {
         assert_eq!(rt; stream.bytes.as_slice(), taken.as_bytes(), "write {call}");
     }
     Ok(())
+}
+
+#[test]
+fn reads_and_writes_over_std(rt: HostRuntime) -> Result<(), Fail> {
+    check_reads(&rt, rt.alloc())?;
+    check_writes(&rt, rt.alloc())
 }

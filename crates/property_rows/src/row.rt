@@ -1,57 +1,77 @@
-use plain_data::{Data, Text, quote};
+use crate::words::{change, described, key, names, set_answer, truth, value};
+use plain_data::quote;
 use std::alloc::{AllocError, Global};
-use window_props::{Change, Key, Object, Props, SetAnswer, Value, descriptor_text, named};
+use window_props::{Key, Object, Props, cross_names, fallback, listed, named};
 
-const WINDOW: Object = Object::Window(1);
+/// The object that calls are made on, with its properties.
+#[derive(Drop)]
+struct Subject {
+    object: Object,
+    props: Props,
+}
 
-/// The answers to a row of calls on one object, in order, with `; ` between two.
+impl Subject {
+    fn new(alloc: Global, object: Object) -> Result<Subject, AllocError> {
+        let props = Props::new(alloc, object)?;
+        Ok(Subject { object, props })
+    }
+}
+
+/// The answers to a row of calls, in order, with `; ` between two. They are made on a new Window, until a call `Location`
+/// or `Window` makes a new object.
 pub fn answers(alloc: Global, row: &str) -> Result<String, AllocError> {
-    let mut props = Props::new(alloc, WINDOW)?;
+    let mut subject = Subject::new(alloc, Object::Window(1))?;
     let mut answers = String::new(alloc);
     for call in row.split(';') {
         if !answers.is_empty() {
             answers.push_str("; ")?;
         }
-        let answer = answer(alloc, &mut props, call.trim())?;
+        let answer = answer(alloc, &mut subject, call.trim())?;
         answers.push_str(answer.as_str())?;
     }
     Ok(answers)
 }
 
-// One call: its name, a key, and what the call gives.
-fn answer(alloc: Global, props: &mut Props, call: &str) -> Result<String, AllocError> {
+// One call: its name, mostly a key, and what the call gives.
+fn answer(alloc: Global, subject: &mut Subject, call: &str) -> Result<String, AllocError> {
     let (name, rest) = call.split_once(' ').unwrap_or((call, ""));
+    match name {
+        "Window" => *subject = Subject::new(alloc, Object::Window(1))?,
+        "Location" => *subject = Subject::new(alloc, Object::Location(1))?,
+        "key" => return key(alloc, rest),
+        "keys" => return script_keys(alloc, subject),
+        "all" => return all_keys(alloc, subject),
+        "names" => return names(alloc, cross_names(subject.object)),
+        _ => return at_key(alloc, subject, name, rest),
+    }
+    String::from_str(alloc, name)
+}
+
+// A call at a key.
+fn at_key(
+    alloc: Global,
+    subject: &mut Subject,
+    name: &str,
+    rest: &str,
+) -> Result<String, AllocError> {
     let (key, given) = rest.split_once(' ').unwrap_or((rest, ""));
     let key = Key::read(alloc, key)?;
     match name {
-        "define" => truth(alloc, props.define(&key, change(alloc, given)?)?),
-        "set" => match props.set(&key, value(alloc, given)?)? {
-            SetAnswer::Truth(done) => truth(alloc, done),
-            SetAnswer::Setter => String::from_str(alloc, "setter"),
-            SetAnswer::TypeFault => String::from_str(alloc, "TypeError"),
-        },
-        "delete" => truth(alloc, props.delete(&key)),
-        "describe" => match props.own(&key)? {
-            None => String::from_str(alloc, "undefined"),
-            Some(property) => {
-                let text = descriptor_text(alloc, &property)?;
-                String::from_str(alloc, text.as_str())
-            }
-        },
-        "keys" => keys(alloc, props),
+        "define" => truth(alloc, subject.props.define(&key, change(alloc, given)?)?),
+        "set" => set_answer(alloc, subject.props.set(&key, value(alloc, given)?)?),
+        "delete" => truth(alloc, subject.props.delete(&key)),
+        "describe" => described(alloc, &subject.props.own(&key)?),
+        "shown" => described(alloc, &listed(subject.object, &key)),
+        "fallback" => truth(alloc, fallback(&key)),
         _ => String::from_str(alloc, "no such call"),
     }
 }
 
-fn truth(alloc: Global, truth: bool) -> Result<String, AllocError> {
-    format!(in alloc; "{truth}")
-}
-
 // The keys that the script made, as a list of JSON.
-fn keys(alloc: Global, props: &Props) -> Result<String, AllocError> {
+fn script_keys(alloc: Global, subject: &Subject) -> Result<String, AllocError> {
     let mut list = String::from_str(alloc, "[")?;
-    for key in props.keys()?.as_slice() {
-        if named(WINDOW, key).is_some() {
+    for key in subject.props.keys()?.as_slice() {
+        if named(subject.object, key).is_some() {
             continue;
         }
         if list.len() > 1 {
@@ -64,36 +84,14 @@ fn keys(alloc: Global, props: &Props) -> Result<String, AllocError> {
     Ok(list)
 }
 
-fn value(alloc: Global, word: &str) -> Result<Value, AllocError> {
-    let plain = match word {
-        "undefined" => Data::Undefined,
-        "null" => Data::Null,
-        "true" => Data::Truth(true),
-        "false" => Data::Truth(false),
-        _ => match word.parse::<i64>() {
-            Ok(whole) => Data::Whole(whole),
-            Err(_) => Data::Text(Text::copy_of(alloc, word)?),
-        },
-    };
-    Ok(Value::Plain(plain))
-}
-
-// Words such as `v=1` and `w=true`, each a part that is given.
-fn change(alloc: Global, words: &str) -> Result<Change, AllocError> {
-    let mut change = Change {
-        value: None,
-        writable: None,
-        enumerable: None,
-        configurable: None,
-    };
-    for word in words.split(' ') {
-        match word.split_once('=') {
-            Some(("v", given)) => change.value = Some(value(alloc, given)?),
-            Some(("w", given)) => change.writable = Some(given == "true"),
-            Some(("e", given)) => change.enumerable = Some(given == "true"),
-            Some(("c", given)) => change.configurable = Some(given == "true"),
-            _ => {}
+// All keys, with a space between two.
+fn all_keys(alloc: Global, subject: &Subject) -> Result<String, AllocError> {
+    let mut line = String::new(alloc);
+    for key in subject.props.keys()?.as_slice() {
+        if !line.is_empty() {
+            line.push_str(" ")?;
         }
+        line.push_str(key.as_str())?;
     }
-    Ok(change)
+    Ok(line)
 }

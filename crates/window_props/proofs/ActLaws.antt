@@ -13,9 +13,9 @@ use Rattle.window_props.specs.Keys.{same_key, has_key, AreApart}
 use Rattle.window_props.specs.declared.platform.Role.{Role}
 use Rattle.window_props.specs.declared.value.Value.{Value}
 use Rattle.window_props.specs.declared.descriptor.Change.{Change}
-use Rattle.window_props.specs.Ordinary.{Act, Define, Set, Delete, acted, done, Done, defined, deleted, set_to, made, plain, is_default, role_at}
+use Rattle.window_props.specs.Ordinary.{Act, Define, Set, Delete, acted, done, Done, ordinary_define, ordinary_delete, set_to, made, plain, is_default, role_at}
 use Rattle.std.proofs.lemmas.Option.{slice_get-get_or}
-use Rattle.window_props.specs.History.{after, keys_after}
+use Rattle.window_props.specs.History.{store_after, keys_after}
 use Rattle.window_props.specs.Rows.{lookup, row_key, row_keys, store_of_rows, IsPlace, IsActed}
 use Rattle.window_props.proofs.RowLaws.{same_key-true, same_key-itself, same_key-sym, there, past, none_first, lookup-none, lookup-other, lookup-set, yes, no}
 
@@ -115,8 +115,8 @@ lookup-place (r ∷ rows) (suc i) row key at same none = let f = none_first r (t
 
 -- ACTS
 
-after-is : (o : Object) (old new : List Row) (key : Key) (act : Act) (p : Option Descriptor) → (acted o key act (lookup old key)).property ≡ p → ((k : Key) → lookup new k ≡ (if same_key key k then p else lookup old k)) → row_keys new ≡ keys_after key (lookup old key) p (row_keys old) → store_of_rows o new ≡ after (store_of_rows o old) (record { key = key; act = act })
-unfolding after
+after-is : (o : Object) (old new : List Row) (key : Key) (act : Act) (p : Option Descriptor) → (acted o key act (lookup old key)).property ≡ p → ((k : Key) → lookup new k ≡ (if same_key key k then p else lookup old k)) → row_keys new ≡ keys_after key (lookup old key) p (row_keys old) → store_of_rows o new ≡ store_after (store_of_rows o old) (record { key = key; act = act })
+unfolding store_after
 after-is o old new key act p is looks keys =
     let at : (k : Key) → lookup new k ≡ (if same_key key k then (acted o key act (lookup old key)).property else lookup old k) = λ k. looks k ∙ ap (λ x. if same_key key k then x else lookup old k) (sym is) in
     let ks : row_keys new ≡ keys_after key (lookup old key) (acted o key act (lookup old key)).property (row_keys old) = keys ∙ ap (λ x. keys_after key (lookup old key) x (row_keys old)) (sym is) in
@@ -185,11 +185,11 @@ removed_at o rows key i act old apart at place is =
 read_at : (rows : List Row) (i : ℕ) (old : Row) → i < length rows → old ≡ get_or rows i old → slice_get rows i ≡ Some old
 read_at rows i old within h = slice_get-get_or rows i old within ∙ ap Some (sym h)
 
-pub acted_define : (o : Object) (key : Key) (c : Change) (before : Option Descriptor) → is_default o key ≡ false → acted o key (Define c) before ≡ defined c before
+pub acted_define : (o : Object) (key : Key) (c : Change) (before : Option Descriptor) → is_default o key ≡ false → acted o key (Define c) before ≡ ordinary_define c before
 unfolding acted
 acted_define o key c before h = no _ _ _ h
 
-pub acted_delete : (o : Object) (key : Key) (before : Option Descriptor) → is_default o key ≡ false → acted o key Delete before ≡ deleted before
+pub acted_delete : (o : Object) (key : Key) (before : Option Descriptor) → is_default o key ≡ false → acted o key Delete before ≡ ordinary_delete before
 unfolding acted
 acted_delete o key before h = no _ _ _ h
 
@@ -221,23 +221,23 @@ found_one rows key i old h place =
     lookup-place rows i old key at (ap (λ (r : Row). same_key r.key key) (sym is) ∙ place.same) place.first
 
 pub stays : (o : Object) (rows : List Row) (key : Key) (i : ℕ) (old : Row) → AreApart (row_keys rows) → old ≡ get_or rows i old → IsPlace rows key i → is_default o key ≡ false → old.property.configurable ≡ false → IsActed o rows rows key Delete (Truth false)
-unfolding deleted
+unfolding ordinary_delete
 stays o rows key i old a h place default fixed =
     let found = found_one rows key i old h place in
-    kept o rows key Delete (Truth false) a (acted_delete o key (lookup rows key) default ∙ ap deleted found ∙ no _ _ _ fixed ∙ ap (done false) (sym found))
+    kept o rows key Delete (Truth false) a (acted_delete o key (lookup rows key) default ∙ ap ordinary_delete found ∙ no _ _ _ fixed ∙ ap (done false) (sym found))
 
 pub gone : (o : Object) (rows new : List Row) (key : Key) (i : ℕ) (old : Row) → AreApart (row_keys rows) → old ≡ get_or rows i old → IsPlace rows key i → new ≡ remove rows i → is_default o key ≡ false → old.property.configurable ≡ true → IsActed o rows new key Delete (Truth true)
-unfolding deleted
+unfolding ordinary_delete
 gone o rows new key i old a h place all default free =
     subst (λ (ns : List Row). IsActed o rows ns key Delete (Truth true)) (sym all)
     (removed_at o rows key i Delete old a (read_at rows i old place.within h) place (acted_delete o key (Some old.property) default ∙ yes _ _ _ free))
 
 pub never_there : (o : Object) (rows : List Row) (key : Key) → AreApart (row_keys rows) → lookup rows key ≡ None → is_default o key ≡ false → IsActed o rows rows key Delete (Truth true)
-unfolding deleted
-never_there o rows key a none default = kept o rows key Delete (Truth true) a (acted_delete o key (lookup rows key) default ∙ ap deleted none ∙ ap (done true) (sym none))
+unfolding ordinary_delete
+never_there o rows key a none default = kept o rows key Delete (Truth true) a (acted_delete o key (lookup rows key) default ∙ ap ordinary_delete none ∙ ap (done true) (sym none))
 
-pub defined_new : (c : Change) → defined c None ≡ done true (Some (made c))
-unfolding defined
+pub defined_new : (c : Change) → ordinary_define c None ≡ done true (Some (made c))
+unfolding ordinary_define
 defined_new c = refl
 
 pub set_new : (role : Role) (v : Value) → set_to role v None ≡ done true (Some (plain v))

@@ -19,7 +19,7 @@ use Rattle.window_props.specs.declared.descriptor.Change.{Change}
 use Rattle.window_props.specs.declared.descriptor.Descriptor.{Descriptor}
 use Rattle.window_props.specs.Keys.{same_key}
 use Rattle.window_props.specs.Values.{same_value, same_method, same_object, same_kind}
-use Rattle.window_props.specs.Ordinary.{Act, Define, Set, Delete, Done, acted, defined, deleted, set_to, set_by, set_accessor, role_at, is_default, is_null, is_refused, is_refused_by_body, is_given, is_other, changed, body_after}
+use Rattle.window_props.specs.Ordinary.{Act, Define, Set, Delete, Done, acted, ordinary_define, ordinary_delete, set_to, set_by, set_accessor, role_at, is_default, is_null, is_refused, is_refused_by_body, is_given, is_other, ordinary_change, body_after}
 use Rattle.window_props.specs.History.{Call, property}
 use Rattle.window_props.specs.Invariants.{is_writable, is_fixed, BodyKept, Keeps, IsKept}
 use Rattle.window_props.proofs.RowLaws.{same_key-true, yes, no}
@@ -99,7 +99,7 @@ body_kept c (body.Value v false) h =
     let p = or-false (is_given c.writable true) (is_other c.value v) h in
     ap (λ w. body.Value (unwrap_or c.value v) w) (not_made c.writable false p.0 refl) ∙ ap (λ w. body.Value w false) (value_same c.value v p.1)
 
-changed_keeps : (c : Change) (d : Descriptor) → d.configurable ≡ false → is_refused c d ≡ false → Keeps d (changed c d)
+changed_keeps : (c : Change) (d : Descriptor) → d.configurable ≡ false → is_refused c d ≡ false → Keeps d (ordinary_change c d)
 changed_keeps c d h r =
     let open_up : is_given c.configurable true || is_given c.enumerable (not d.enumerable) || is_refused_by_body c d.body ≡ false = ap (λ b. not b && (is_given c.configurable true || is_given c.enumerable (not d.enumerable) || is_refused_by_body c d.body)) (sym h) ∙ r in
     let p = or-false (is_given c.configurable true || is_given c.enumerable (not d.enumerable)) (is_refused_by_body c d.body) open_up in
@@ -126,7 +126,7 @@ set_keeps role v d (body.Value w true) is h = record { configurable = h; enumera
 set_keeps role v d (body.Value w false) is h = itself d h
 
 acted_keeps : (o : Object) (key : Key) (act : Act) (d : Descriptor) → d.configurable ≡ false → IsKept d (acted o key act (Some d)).property
-unfolding acted defined deleted set_to
+unfolding acted ordinary_define ordinary_delete set_to
 acted_keeps o key (Define c) d h = kept_if d (is_default o key) _ _ (λ e. itself d h) (λ e. kept_if d (is_refused c d) _ _ (λ r. itself d h) (λ r. changed_keeps c d h r))
 acted_keeps o key (Set v) d h = set_keeps (role_at o key) v d d.body refl h
 acted_keeps o key Delete d h = kept_if d (is_default o key) _ _ (λ e. itself d h) (λ e. kept_if d d.configurable _ _ (λ f. absurd (let n : true ≡ false = sym f ∙ h in cc)) (λ f. itself d h))

@@ -13,7 +13,7 @@ use Rattle.window_props.specs.declared.platform.Object.TheVariants as object
 use Rattle.window_props.specs.declared.platform.Platform.TheVariants.{Window, Itself, Location, Close, Closed, Focus, Blur, Frames, Length, Top, Opener, Parent, PostMessage, Name, Origin}
 use Rattle.window_props.specs.Keys.{same_key}
 use Rattle.window_props.specs.Platform.{spelled, key_of, named, made_by_platform, platform, platform_keys}
-use Rattle.window_props.specs.Ordinary.{Act, Define, Set, Delete, acted, defined, deleted, is_default}
+use Rattle.window_props.specs.Ordinary.{Act, Define, Set, Delete, acted, ordinary_define, ordinary_delete, is_default}
 
 -- an act at a key
 pub record Call : Type 0 where
@@ -65,15 +65,15 @@ abbrev pub answer_in : Store → Call → SetAnswer
 answer_in s call = (acted s.object call.key call.act (s.at call.key)).answer
 
 -- one more call
-unfoldable pub after : Store → Call → Store
-after s call = record {
+unfoldable pub store_after : Store → Call → Store
+store_after s call = record {
   object = s.object;
   at = λ key. if same_key call.key key then acted_in s call else s.at key;
   keys = keys_after call.key (s.at call.key) (acted_in s call) s.keys;
 }
 
-pub store_of_step : (o : Object) (call : Call) (older : List Call) → store_of o (call ∷ older) ≡ after (store_of o older) call
-unfolding store_of after
+pub store_of_step : (o : Object) (call : Call) (older : List Call) → store_of o (call ∷ older) ≡ store_after (store_of o older) call
+unfolding store_of store_after
 store_of_step o call older = refl
 
 -- ROWS: `self` of a Window
@@ -86,11 +86,11 @@ delete_self = delete_at (key_of Itself)
 
 defined_row : property (object.Window 1) (define_self ∷ []) (key_of Itself)
     ≡ Some (record { body = body.Value (value.Plain (Whole (pos 1))) false; enumerable = true; configurable = true })
-unfolding define_self acted defined platform named same_key spelled made_by_platform is_default
+unfolding define_self acted ordinary_define platform named same_key spelled made_by_platform is_default
 defined_row = refl
 
 -- made again, it is the last key
 made_again_row : keys (object.Window 1) (define_self ∷ delete_self ∷ [])
     ≡ map key_of (Window ∷ Location ∷ Close ∷ Closed ∷ Focus ∷ Blur ∷ Frames ∷ Length ∷ Top ∷ Opener ∷ Parent ∷ PostMessage ∷ Name ∷ Origin ∷ Itself ∷ [])
-unfolding define_self delete_self acted defined deleted platform platform_keys named same_key spelled made_by_platform is_default
+unfolding define_self delete_self acted ordinary_define ordinary_delete platform platform_keys named same_key spelled made_by_platform is_default
 made_again_row = refl

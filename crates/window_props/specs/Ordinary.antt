@@ -72,16 +72,16 @@ body_after value writable (body.Value v was) = body.Value (unwrap_or value v) (u
 body_after value writable (body.Accessor get set) =
     if is_some value || is_some writable then body.Value (unwrap_or value nothing) (unwrap_or writable false) else body.Accessor get set
 
-abbrev pub changed : Change → Descriptor → Descriptor
-changed c d = record {
+abbrev pub ordinary_change : Change → Descriptor → Descriptor
+ordinary_change c d = record {
   body = body_after c.value c.writable d.body;
   enumerable = unwrap_or c.enumerable d.enumerable;
   configurable = unwrap_or c.configurable d.configurable;
 }
 
-unfoldable pub defined : Change → Option Descriptor → Done
-defined c None = done true (Some (made c))
-defined c (Some d) = if is_refused c d then done false (Some d) else done true (Some (changed c d))
+unfoldable pub ordinary_define : Change → Option Descriptor → Done
+ordinary_define c None = done true (Some (made c))
+ordinary_define c (Some d) = if is_refused c d then done false (Some d) else done true (Some (ordinary_change c d))
 
 -- SET (ECMA-262, OrdinarySet, with the object itself as receiver)
 
@@ -114,9 +114,9 @@ set_to role v (Some d) = set_by role v d d.body
 
 -- DELETE (ECMA-262, OrdinaryDelete)
 
-unfoldable pub deleted : Option Descriptor → Done
-deleted None = done true None
-deleted (Some d) = if d.configurable then done true None else done false (Some d)
+unfoldable pub ordinary_delete : Option Descriptor → Done
+ordinary_delete None = done true None
+ordinary_delete (Some d) = if d.configurable then done true None else done false (Some d)
 
 -- AN ACT AT A KEY OF AN OBJECT
 
@@ -130,6 +130,6 @@ is_default (object.Window _) key = false
 is_default (object.Location d) key = is_some (named (object.Location d) key)
 
 unfoldable pub acted : Object → Key → Act → Option Descriptor → Done
-acted o key (Define c) before = if is_default o key then done false before else defined c before
+acted o key (Define c) before = if is_default o key then done false before else ordinary_define c before
 acted o key (Set v) before = set_to (role_at o key) v before
-acted o key Delete before = if is_default o key then done false before else deleted before
+acted o key Delete before = if is_default o key then done false before else ordinary_delete before

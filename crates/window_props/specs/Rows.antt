@@ -9,7 +9,7 @@ use Rattle.window_props.specs.Keys.{same_key, AreApart}
 use Rattle.window_props.specs.Platform.{key_of, made_by_platform, names_of}
 use Rattle.window_props.specs.declared.props.SetAnswer.{SetAnswer}
 use Rattle.window_props.specs.Ordinary.{Act, acted}
-use Rattle.window_props.specs.History.{Store, after}
+use Rattle.window_props.specs.History.{Store, store_after}
 
 abbrev pub lookup : List Row → Key → Option Descriptor
 lookup [] key = None
@@ -35,7 +35,7 @@ store_of_rows o rows = record { object = o; at = lookup rows; keys = row_keys ro
 -- the rows after an act at a key, with its answer
 pub record IsActed (o : Object) (old new : List Row) (key : Key) (act : Act) (answer : SetAnswer) : Type 0 where
   pub told : answer ≡ (acted o key act (lookup old key)).answer
-  pub store : store_of_rows o new ≡ after (store_of_rows o old) (record { key = key; act = act })
+  pub store : store_of_rows o new ≡ store_after (store_of_rows o old) (record { key = key; act = act })
   pub apart : AreApart (row_keys new)
 
 -- the row that the platform makes of a name

@@ -1,5 +1,5 @@
 ghost use Rattle.std.specs.Prelude.{◌≡◌, Some};
-ghost use Rattle.window_props.specs.Ordinary.{made, is_given, is_other, gives_data, is_refused, is_refused_by_body, body_after, defined, done, plain, is_null, set_accessor, set_to};
+ghost use Rattle.window_props.specs.Ordinary.{made, is_given, is_other, gives_data, is_refused, is_refused_by_body, body_after, ordinary_define, done, plain, is_null, set_accessor, set_to};
 
 use crate::platform::Role;
 use crate::props::SetAnswer;
@@ -167,9 +167,9 @@ fn rewrite(body: &mut Body, value: Option<Value>, writable: Option<bool>)
 }
 
 /// Makes the change where the property takes it (ECMA-262, ValidateAndApplyPropertyDescriptor). False leaves it as it was.
-#[tactic(auto, unfolding(crate::specs::Ordinary::defined))]
+#[tactic(auto, unfolding(crate::specs::Ordinary::ordinary_define))]
 pub fn redefine(property: &mut Descriptor, change: Change) -> bool
-    ensures { defined change (Some property.old) ≡ done result (Some property.new) }
+    ensures { ordinary_define change (Some property.old) ≡ done result (Some property.new) }
 {
     if is_refused(&change, property) {
         return false;

@@ -27,8 +27,6 @@ mod platform;
 mod printing;
 mod props;
 mod rows;
-#[cfg(test)]
-mod tests;
 mod value;
 
 pub use cross::{CROSS_LOCATION, CROSS_WINDOW, cross_names, fallback, listed};

@@ -1,7 +1,7 @@
 ghost use Rattle.std.specs.Prelude.{◌≡◌, [], IfOk, OnErr};
 ghost use Rattle.window_props.specs.Keys.{AreApart, AreApart-prop};
 ghost use Rattle.window_props.specs.Rows.{row_keys, platform_rows};
-ghost use Rattle.window_props.specs.History.{store_of, after, answer_in, define_at, set_at, delete_at};
+ghost use Rattle.window_props.specs.History.{store_of, store_after, answer_in, define_at, set_at, delete_at};
 ghost use Rattle.window_props.specs.declared.props.SetAnswer.TheVariants.{Truth};
 
 use crate::descriptor::{Change, Descriptor};
@@ -61,11 +61,11 @@ fn platform_rows(alloc: Global, object: Object) -> Result<Vec<Row>, AllocError>
 }
 
 impl Props {
-    ghost use Rattle.window_props.specs.Shown.{shown};
+    ghost use Rattle.window_props.specs.Shown.{store_shown};
 
     /// The store of an object on which nothing was called yet: the properties that the platform makes.
     pub fn new(alloc: Global, object: Object) -> Result<Props, AllocError>
-        ensures { IfOk result (λ p. shown p ≡ store_of object []) }
+        ensures { IfOk result (λ p. store_shown p ≡ store_of object []) }
     {
         let rows = platform_rows(alloc, object)?;
         Ok(Props {
@@ -77,7 +77,7 @@ impl Props {
 
     /// The property at the key (ECMA-262, [[GetOwnProperty]]); `None` exactly where the history has none there.
     pub fn own(&self, key: &Key) -> Result<Option<Descriptor>, AllocError>
-        ensures { IfOk result (λ d. d ≡ (shown self.now).at key.now) }
+        ensures { IfOk result (λ d. d ≡ (store_shown self.now).at key.now) }
     {
         match place_of(&self.rows, key) {
             None => Ok(None),
@@ -88,9 +88,9 @@ impl Props {
     /// Defines the property at the key (ECMA-262, [[DefineOwnProperty]] of ordinary objects): makes it where it is
     /// missing, changes it where it takes the change, else answers false. A default of a Location answers false.
     pub fn define(&mut self, key: &Key, change: Change) -> Result<bool, AllocError>
-        ensures answer { IfOk result (λ b. Truth b ≡ answer_in (shown self.old) (define_at key.now change)) }
-        ensures ok { IfOk result (λ _. shown self.new ≡ after (shown self.old) (define_at key.now change)) }
-        ensures err { OnErr result (shown self.new ≡ shown self.old) }
+        ensures answer { IfOk result (λ b. Truth b ≡ answer_in (store_shown self.old) (define_at key.now change)) }
+        ensures ok { IfOk result (λ _. store_shown self.new ≡ store_after (store_shown self.old) (define_at key.now change)) }
+        ensures err { OnErr result (store_shown self.new ≡ store_shown self.old) }
     {
         define_in(self.object, &mut self.rows, key, change)
     }
@@ -98,9 +98,9 @@ impl Props {
     /// Sets the property at the key (ECMA-262, OrdinarySet, with the object as receiver): a writable value, or a new
     /// property where none is, answers true; the platform's accessors answer by their setter.
     pub fn set(&mut self, key: &Key, value: Value) -> Result<SetAnswer, AllocError>
-        ensures answer { IfOk result (λ answer. answer ≡ answer_in (shown self.old) (set_at key.now value)) }
-        ensures ok { IfOk result (λ _. shown self.new ≡ after (shown self.old) (set_at key.now value)) }
-        ensures err { OnErr result (shown self.new ≡ shown self.old) }
+        ensures answer { IfOk result (λ answer. answer ≡ answer_in (store_shown self.old) (set_at key.now value)) }
+        ensures ok { IfOk result (λ _. store_shown self.new ≡ store_after (store_shown self.old) (set_at key.now value)) }
+        ensures err { OnErr result (store_shown self.new ≡ store_shown self.old) }
     {
         set_in(self.object, &mut self.rows, key, value)
     }
@@ -108,8 +108,8 @@ impl Props {
     /// Deletes the property at the key (ECMA-262, OrdinaryDelete): true where none is left there. A default of a
     /// Location answers false. It takes no memory.
     pub fn delete(&mut self, key: &Key) -> bool
-        ensures answer { Truth result ≡ answer_in (shown self.old) (delete_at key.now) }
-        ensures ok { shown self.new ≡ after (shown self.old) (delete_at key.now) }
+        ensures answer { Truth result ≡ answer_in (store_shown self.old) (delete_at key.now) }
+        ensures ok { store_shown self.new ≡ store_after (store_shown self.old) (delete_at key.now) }
     {
         delete_in(self.object, &mut self.rows, key)
     }
@@ -118,7 +118,7 @@ impl Props {
     /// order, then the script's in order of creation, symbols among texts. A key of the platform that was deleted and made
     /// again is the script's.
     pub fn keys(&self) -> Result<Items<Key>, AllocError>
-        ensures { IfOk result (λ keys. keys ≡ (shown self.now).keys) }
+        ensures { IfOk result (λ keys. keys ≡ (store_shown self.now).keys) }
     {
         let mut keys = Items::new(self.alloc);
         for row in self.rows.as_slice() {
