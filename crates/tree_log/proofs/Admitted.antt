@@ -4,12 +4,13 @@ use Rattle.std.specs.Prelude.{◌&&◌, ◌==◌, nat_lt, unwrap_or, if◌then�
 use Rattle.std.specs.Coded.{×_prop, Unit-prop, Coded-set, coded_bool}
 use Rattle.std.proofs.lemmas.Bool.{ne_eqb}
 use Rattle.std.proofs.lemmas.Bool.Decides.{nat_tests}
+use Rattle.std.specs.Option.{option_or}
 use Rattle.tree_log.specs.declared.entry.Entry.{Entry}
 use Rattle.tree_log.specs.declared.entry.Load.{Load}
 use Rattle.tree_log.specs.declared.entry.What.{What}
 use Rattle.tree_log.specs.declared.entry.What.TheVariants.{Open, Frame, Begin, Post, Closing}
-use Rattle.tree_log.specs.Facts.{at, or_else, Birth, bears, bears_load, docs_after, navs_after, groups_after}
-use Rattle.tree_log.specs.Tree.{Tree, tree_of, after, tree_of_step, nav_of, home_of}
+use Rattle.tree_log.specs.Facts.{at, Birth, bears, bears_load, docs_after, navs_after, groups_after}
+use Rattle.tree_log.specs.Tree.{Tree, tree_of, tree_after, tree_of_step, nav_of, home_of}
 use Rattle.tree_log.specs.Admits.{has, is_next, is_next_load, admits_what, admits, AreAdmitted}
 
 -- TESTS
@@ -46,12 +47,12 @@ navs_grow (Open _ _ _ _ _ _ _ _ _ _) n = omega arith
 navs_grow (Frame _ _ _ _ _ _ _) n = omega arith
 navs_grow _ n = omega arith
 
-pub docs_at_step : (t : Tree) (e : Entry) → (after t e).docs ≡ docs_after e.what t.docs
-unfolding after
+pub docs_at_step : (t : Tree) (e : Entry) → (tree_after t e).docs ≡ docs_after e.what t.docs
+unfolding tree_after
 docs_at_step t e = refl
 
-pub navs_at_step : (t : Tree) (e : Entry) → (after t e).navs ≡ navs_after e.what t.navs
-unfolding after
+pub navs_at_step : (t : Tree) (e : Entry) → (tree_after t e).navs ≡ navs_after e.what t.navs
+unfolding tree_after
 navs_at_step t e = refl
 
 -- WHAT WAS BORN STAYS
@@ -83,8 +84,8 @@ none_born t by actor (Begin nav load) d h lt =
     at_other {A = Birth} d load.doc _ (omega arith)
 none_born t by actor _ d h lt = refl
 
-pub born_stays : (t : Tree) (e : Entry) (d : ℕ) → admits t e ≡ true → d < t.docs → ((after t e).doc d).born ≡ (t.doc d).born
-unfolding after admits
+pub born_stays : (t : Tree) (e : Entry) (d : ℕ) → admits t e ≡ true → d < t.docs → ((tree_after t e).doc d).born ≡ (t.doc d).born
+unfolding tree_after admits
 born_stays t e d h lt = ap (λ b. unwrap_or b (t.doc d).born) (none_born t e.by e.actor e.what d (both _ _ h).1 lt)
 
 -- THE TASKS OF A LOG
@@ -114,10 +115,10 @@ AllStand t [] = Unit {0}
 AllStand t (e ∷ older) = TaskStands t e.what × AllStand t older
 
 -- what stood stands once an entry more was admitted
-stands_later : (t : Tree) (e : Entry) (nav : ℕ) (load : Load) → admits t e ≡ true → StandsFor t nav load → StandsFor (after t e) nav load
+stands_later : (t : Tree) (e : Entry) (nav : ℕ) (load : Load) → admits t e ≡ true → StandsFor t nav load → StandsFor (tree_after t e) nav load
 stands_later t e nav load h s =
-    let docs : t.docs ≤ (after t e).docs = subst (λ n. t.docs ≤ n) (sym (docs_at_step t e)) (docs_grow e.what t.docs) in
-    let navs : t.navs ≤ (after t e).navs = subst (λ n. t.navs ≤ n) (sym (navs_at_step t e)) (navs_grow e.what t.navs) in
+    let docs : t.docs ≤ (tree_after t e).docs = subst (λ n. t.docs ≤ n) (sym (docs_at_step t e)) (docs_grow e.what t.docs) in
+    let navs : t.navs ≤ (tree_after t e).navs = subst (λ n. t.navs ≤ n) (sym (navs_at_step t e)) (navs_grow e.what t.navs) in
     record {
       doc = omega (arith, s.doc);
       nav_there = omega (arith, s.nav_there);
@@ -125,23 +126,23 @@ stands_later t e nav load h s =
       home = ap (λ (b : Birth). b.home) (born_stays t e load.doc h s.doc) ∙ s.home;
     }
 
-any_later : (t : Tree) (e : Entry) (nav : ℕ) (load : Option Load) → admits t e ≡ true → StandsIfAny t nav load → StandsIfAny (after t e) nav load
+any_later : (t : Tree) (e : Entry) (nav : ℕ) (load : Option Load) → admits t e ≡ true → StandsIfAny t nav load → StandsIfAny (tree_after t e) nav load
 any_later t e nav None h s = tt
 any_later t e nav (Some load) h s = stands_later t e nav load h s
 
-tasks_later : (t : Tree) (e : Entry) (w : What) → admits t e ≡ true → TaskStands t w → TaskStands (after t e) w
+tasks_later : (t : Tree) (e : Entry) (w : What) → admits t e ≡ true → TaskStands t w → TaskStands (tree_after t e) w
 tasks_later t e (Open nav _ _ _ _ _ _ _ _ load) h s = any_later t e nav load h s
 tasks_later t e (Frame nav _ _ _ _ _ load) h s = any_later t e nav load h s
 tasks_later t e (Begin nav load) h s = stands_later t e nav load h s
 tasks_later t e (Post to _ _ _ _) h s =
-    let docs : t.docs ≤ (after t e).docs = subst (λ n. t.docs ≤ n) (sym (docs_at_step t e)) (docs_grow e.what t.docs) in
+    let docs : t.docs ≤ (tree_after t e).docs = subst (λ n. t.docs ≤ n) (sym (docs_at_step t e)) (docs_grow e.what t.docs) in
     omega (arith, s)
 tasks_later t e (Closing nav) h s =
-    let navs : t.navs ≤ (after t e).navs = subst (λ n. t.navs ≤ n) (sym (navs_at_step t e)) (navs_grow e.what t.navs) in
+    let navs : t.navs ≤ (tree_after t e).navs = subst (λ n. t.navs ≤ n) (sym (navs_at_step t e)) (navs_grow e.what t.navs) in
     omega (arith, s)
 tasks_later t e _ h s = tt
 
-all_later : (t : Tree) (e : Entry) (log : List Entry) → admits t e ≡ true → AllStand t log → AllStand (after t e) log
+all_later : (t : Tree) (e : Entry) (log : List Entry) → admits t e ≡ true → AllStand t log → AllStand (tree_after t e) log
 all_later t e [] h s = tt
 all_later t e (x ∷ log) h s = (tasks_later t e x.what h s.0, all_later t e log h s.1)
 
@@ -150,13 +151,13 @@ at_self n x = rw (eq-eqb n n refl) refl
 
 -- the entry that makes a navigable and begins its first load
 makes_both : (t : Tree) (by actor : Option ℕ) (w : What) (nav doc : ℕ) (initial : Birth) (load : Load) → doc ≡ t.docs → load.doc ≡ t.docs + 1 → nav ≡ t.navs
-    → docs_after w t.docs ≡ t.docs + 2 → navs_after w t.navs ≡ t.navs + 1 → bears load.doc w ≡ or_else (at load.doc doc initial) (bears_load load.doc nav (Some load))
-    → StandsFor (after t (record { by = by; actor = actor; what = w })) nav load
-unfolding after
+    → docs_after w t.docs ≡ t.docs + 2 → navs_after w t.navs ≡ t.navs + 1 → bears load.doc w ≡ option_or (at load.doc doc initial) (bears_load load.doc nav (Some load))
+    → StandsFor (tree_after t (record { by = by; actor = actor; what = w })) nav load
+unfolding tree_after
 makes_both t by actor w nav doc initial load doc_is load_is nav_is docs navs bears_is =
     let other : at load.doc doc initial ≡ None = rw (ne_eqb doc load.doc (λ e. absurd (omega arith))) refl in
     let none : bears load.doc w ≡ Some (record { nav = nav; origin = load.origin; home = load.home; loaded = true }) =
-    bears_is ∙ ap (λ o. or_else o (bears_load load.doc nav (Some load))) other ∙ at_self load.doc _ in
+    bears_is ∙ ap (λ o. option_or o (bears_load load.doc nav (Some load))) other ∙ at_self load.doc _ in
     record {
       doc = omega arith;
       nav_there = omega arith;
@@ -164,8 +165,8 @@ makes_both t by actor w nav doc initial load doc_is load_is nav_is docs navs bea
       home = ap (λ (b : Option Birth). (unwrap_or b (t.doc load.doc).born).home) none;
     }
 
-begins_there : (t : Tree) (by actor : Option ℕ) (nav : ℕ) (load : Load) → load.doc ≡ t.docs → nav < t.navs → StandsFor (after t (record { by = by; actor = actor; what = Begin nav load })) nav load
-unfolding after
+begins_there : (t : Tree) (by actor : Option ℕ) (nav : ℕ) (load : Load) → load.doc ≡ t.docs → nav < t.navs → StandsFor (tree_after t (record { by = by; actor = actor; what = Begin nav load })) nav load
+unfolding tree_after
 begins_there t by actor nav load doc_is there =
     let made : bears load.doc (Begin nav load) ≡ Some (record { nav = nav; origin = load.origin; home = load.home; loaded = true }) = at_self load.doc _ in
     record {
@@ -179,13 +180,13 @@ pub what_admitted : (t : Tree) (e : Entry) → admits t e ≡ true → admits_wh
 unfolding admits
 what_admitted t e h = (both _ _ h).1
 
-post_there : (t : Tree) (e : Entry) (to : ℕ) → docs_after e.what t.docs ≡ t.docs → to < t.docs → to < (after t e).docs
+post_there : (t : Tree) (e : Entry) (to : ℕ) → docs_after e.what t.docs ≡ t.docs → to < t.docs → to < (tree_after t e).docs
 post_there t e to same lt = subst (λ n. to < n) (sym (docs_at_step t e ∙ same)) lt
 
-closing_there : (t : Tree) (e : Entry) (nav : ℕ) → navs_after e.what t.navs ≡ t.navs → nav < t.navs → nav < (after t e).navs
+closing_there : (t : Tree) (e : Entry) (nav : ℕ) → navs_after e.what t.navs ≡ t.navs → nav < t.navs → nav < (tree_after t e).navs
 closing_there t e nav same lt = subst (λ n. nav < n) (sym (navs_at_step t e ∙ same)) lt
 
-tasks_here : (t : Tree) (by actor : Option ℕ) (w : What) → admits_what t by actor w ≡ true → TaskStands (after t (record { by = by; actor = actor; what = w })) w
+tasks_here : (t : Tree) (by actor : Option ℕ) (w : What) → admits_what t by actor w ≡ true → TaskStands (tree_after t (record { by = by; actor = actor; what = w })) w
 tasks_here t by actor (Open nav doc group home origin name opener flags navigator None) h = tt
 tasks_here t by actor (Open nav doc group home origin name opener flags navigator (Some load)) h =
     let last = both _ (is_next (t.docs + 1) load.doc) h in
@@ -215,7 +216,7 @@ tasks_here t by actor _ h = tt
 pub tasks_stand : (log : List Entry) → AreAdmitted log → AllStand (tree_of log) log
 tasks_stand [] h = tt
 tasks_stand (e ∷ older) h =
-    let rest : AllStand (after (tree_of older) e) older = all_later (tree_of older) e older h.0 (tasks_stand older h.1) in
+    let rest : AllStand (tree_after (tree_of older) e) older = all_later (tree_of older) e older h.0 (tasks_stand older h.1) in
     subst (λ (t : Tree). AllStand t (e ∷ older)) (sym (tree_of_step e older)) (tasks_here (tree_of older) e.by e.actor e.what (what_admitted (tree_of older) e h.0), rest)
 
 -- HOW MANY THERE ARE

@@ -7,17 +7,17 @@ use Rattle.tree_log.specs.Urls.{url_of, gives_url}
 use Rattle.tree_log.specs.declared.entry.Entry.{Entry}
 use Rattle.tree_log.specs.declared.entry.What.{What}
 use Rattle.tree_log.specs.declared.entry.What.TheVariants.{Open, Frame, Begin, Fragment, Post, Fire, Lapse, Hidden}
-use Rattle.tree_log.specs.Tree.{Tree, tree_of, after, tree_of_step}
+use Rattle.tree_log.specs.Tree.{Tree, tree_of, tree_after, tree_of_step}
 use Rattle.tree_log.specs.Blanking.{blank, blanked, hidden}
 
-hidden_or : (t : Tree) (by actor : Option ℕ) (what w : What) (b : Bool) → after t hidden ≡ after t (record { by = by; actor = actor; what = w }) →
-    after t (if b then hidden else record { by = by; actor = actor; what = w }) ≡ after t (record { by = by; actor = actor; what = w })
+hidden_or : (t : Tree) (by actor : Option ℕ) (what w : What) (b : Bool) → tree_after t hidden ≡ tree_after t (record { by = by; actor = actor; what = w }) →
+    tree_after t (if b then hidden else record { by = by; actor = actor; what = w }) ≡ tree_after t (record { by = by; actor = actor; what = w })
 hidden_or t by actor what w true e = e
 hidden_or t by actor what w false e = refl
 
 after-blank_what : (kept : ℕ → Bool) (t : Tree) (by actor : Option ℕ) (w : What) →
-    after t (blank kept (record { by = by; actor = actor; what = w })) ≡ after t (record { by = by; actor = actor; what = w })
-unfolding after
+    tree_after t (blank kept (record { by = by; actor = actor; what = w })) ≡ tree_after t (record { by = by; actor = actor; what = w })
+unfolding tree_after
 after-blank_what kept t by actor (Open nav doc group home origin name opener flags navigator None) = refl
 after-blank_what kept t by actor (Open nav doc group home origin name opener flags navigator (Some load)) = refl
 after-blank_what kept t by actor (Frame nav doc home origin name flags None) = refl
@@ -28,7 +28,7 @@ after-blank_what kept t by actor (Fire doc post) = hidden_or t by actor (Fire do
 after-blank_what kept t by actor (Lapse doc post cause) = hidden_or t by actor (Lapse doc post cause) (Lapse doc post cause) (not (kept doc)) refl
 after-blank_what kept t by actor w = refl
 
-pub after-blank : (kept : ℕ → Bool) (t : Tree) (e : Entry) → after t (blank kept e) ≡ after t e
+pub after-blank : (kept : ℕ → Bool) (t : Tree) (e : Entry) → tree_after t (blank kept e) ≡ tree_after t e
 after-blank kept t e = after-blank_what kept t e.by e.actor e.what
 
 -- the tree of a blanked log is that of the log, whoever is kept
@@ -36,7 +36,7 @@ pub tree_of-blanked : (kept : ℕ → Bool) (log : List Entry) → tree_of (blan
 tree_of-blanked kept [] = refl
 tree_of-blanked kept (e ∷ older) =
     tree_of_step (blank kept e) (blanked kept older)
-    ∙ ap (λ t. after t (blank kept e)) (tree_of-blanked kept older)
+    ∙ ap (λ t. tree_after t (blank kept e)) (tree_of-blanked kept older)
     ∙ after-blank kept (tree_of older) e
     ∙ sym (tree_of_step e older)
 

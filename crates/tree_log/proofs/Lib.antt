@@ -3,3 +3,4 @@ pub mod BlankLaws
 pub mod HomeRows
 pub mod Kept
 pub mod Admitted
+pub mod Unmade

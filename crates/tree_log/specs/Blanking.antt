@@ -2,9 +2,9 @@
 -- that what the standard hides from other origins can be kept from their renderers.
 use Rattle.std.specs.Prelude.{ℕ, List, [], ◌∷◌, Option, Some, None, Bool, false, not, filter, codes, ◌==◌, ◌&&◌, if◌then◌else◌}
 use Rattle.std.specs.List.{list_any, range_with_len}
-use Rattle.origin_core.specs.Origin.{blank_text, is_same_origin_domain}
+use Rattle.origin_core.specs.Origin.{blank_text}
 use Rattle.tree_log.specs.Names.{Entry, Load, What, Open, Frame, Begin, Fragment, Post, Fire, Lapse, Hidden}
-use Rattle.tree_log.specs.Tree.{Tree, home_of, origin_of, nav_of, same_group}
+use Rattle.tree_log.specs.Tree.{Tree, home_of, origin_of, nav_of, same_group, same_domain}
 
 -- the URL of a document that isn't kept becomes that of the root of its origin
 abbrev pub blank_load : (ℕ → Bool) → Load → Load
@@ -54,4 +54,4 @@ homed_at t r = filter (is_homed t r) (range_with_len 0 t.docs)
 
 -- a document may see those of its group that are same origin-domain with it
 abbrev pub is_open_to : Tree → ℕ → ℕ → Bool
-is_open_to t asker d = same_group t (nav_of t asker) (nav_of t d) && is_same_origin_domain (origin_of t asker) (origin_of t d)
+is_open_to t asker d = same_group t (nav_of t asker) (nav_of t d) && same_domain t asker d

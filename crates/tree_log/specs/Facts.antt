@@ -1,5 +1,6 @@
 -- What each entry of a log says of a navigable or of a document (HTML Standard, 7.3). The newest entry that says something decides.
 use Rattle.std.specs.Prelude.{ℕ, ◌+◌, List, [], ◌∷◌, ◌++◌, Option, Some, None, Bool, true, false, ◌||◌, ◌==◌, if◌then◌else◌, unwrap_or, is_some}
+use Rattle.std.specs.Option.{option_or}
 use Rattle.tree_log.specs.Names.{Entry, Load, What, Open, Frame, Drop, Name, Begin, Commit, Opener, Closing, Gone}
 use Rattle.origin_core.specs.declared.origin.Origin.{Origin}
 
@@ -44,13 +45,13 @@ abbrev pub drops : ℕ → What → Bool
 drops n (Drop nav) = nav == n
 drops n _ = false
 
-abbrev pub closes : ℕ → What → Bool
-closes n (Gone nav) = nav == n
-closes n _ = false
+abbrev pub says_gone : ℕ → What → Bool
+says_gone n (Gone nav) = nav == n
+says_gone n _ = false
 
-abbrev pub asks_to_close : ℕ → What → Bool
-asks_to_close n (Closing nav) = nav == n
-asks_to_close n _ = false
+abbrev pub says_closing : ℕ → What → Bool
+says_closing n (Closing nav) = nav == n
+says_closing n _ = false
 
 abbrev pub names : ℕ → What → Option (List ℕ)
 names n (Open nav _ _ _ _ name _ _ _ _) = at n nav name
@@ -58,10 +59,10 @@ names n (Frame nav _ _ _ name _ _) = at n nav name
 names n (Name nav name) = at n nav name
 names n _ = None
 
-abbrev pub opens : ℕ → What → Option (Option ℕ)
-opens n (Open nav _ _ _ _ _ opener _ _ _) = at n nav opener
-opens n (Opener nav to) = at n nav to
-opens n _ = None
+abbrev pub says_opener : ℕ → What → Option (Option ℕ)
+says_opener n (Open nav _ _ _ _ _ opener _ _ _) = at n nav opener
+says_opener n (Opener nav to) = at n nav to
+says_opener n _ = None
 
 abbrev pub doc_of_load : Option Load → Option ℕ
 doc_of_load None = None
@@ -81,21 +82,21 @@ pub record Birth : Type 0 where
   pub home : ℕ
   pub loaded : Bool
 
--- of a document that was not made: its home is no renderer
-abbrev pub no_birth : Birth
-no_birth = record { nav = 0; origin = Origin.Opaque 0; home = 65536; loaded = false }
+-- the number of nothing that was made: such numbers are below it
+abbrev pub no_number : ℕ
+no_number = 4294967296
 
-abbrev pub or_else : {A : Type 0} → Option A → Option A → Option A
-or_else (Some x) _ = Some x
-or_else None other = other
+-- of a document that was not made: it was made for no navigable, no document has its origin, and its home is no renderer
+abbrev pub no_birth : Birth
+no_birth = record { nav = no_number; origin = Origin.Opaque no_number; home = 65536; loaded = false }
 
 abbrev pub bears_load : ℕ → ℕ → Option Load → Option Birth
 bears_load d nav None = None
 bears_load d nav (Some load) = at d load.doc (record { nav = nav; origin = load.origin; home = load.home; loaded = true })
 
 abbrev pub bears : ℕ → What → Option Birth
-bears d (Open nav doc _ home origin _ _ _ _ load) = or_else (at d doc (record { nav = nav; origin = origin; home = home; loaded = false })) (bears_load d nav load)
-bears d (Frame nav doc home origin _ _ load) = or_else (at d doc (record { nav = nav; origin = origin; home = home; loaded = false })) (bears_load d nav load)
+bears d (Open nav doc _ home origin _ _ _ _ load) = option_or (at d doc (record { nav = nav; origin = origin; home = home; loaded = false })) (bears_load d nav load)
+bears d (Frame nav doc home origin _ _ load) = option_or (at d doc (record { nav = nav; origin = origin; home = home; loaded = false })) (bears_load d nav load)
 bears d (Begin nav load) = bears_load d nav (Some load)
 bears d _ = None
 

@@ -1,10 +1,11 @@
 -- The tree of navigables that a log makes (HTML Standard, 7.3): what the log says of each navigable and document, and what follows from that.
-use Rattle.std.specs.Prelude.{ℕ, zero, suc, List, [], ◌∷◌, length, filter, Option, Some, None, Bool, true, false, not, ◌||◌, ◌&&◌, ◌==◌, if◌then◌else◌, unwrap_or, is_none, ◌≡◌, refl}
+use Rattle.std.specs.Prelude.{ℕ, zero, suc, List, [], ◌∷◌, length, filter, Option, Some, None, Bool, true, false, not, ◌||◌, ◌&&◌, ◌==◌, if◌then◌else◌, unwrap_or, is_none, nat_lt, ◌≡◌, refl}
 use Rattle.std.specs.List.{list_any}
+use Rattle.origin_core.specs.Origin.{is_same_origin_domain}
 use Rattle.tree_log.specs.Names.{Entry}
 use Rattle.origin_core.specs.declared.origin.Origin.{Origin}
 pub use Rattle.tree_log.specs.Log.{is}
-use Rattle.tree_log.specs.Facts.{newest, some_entry, gathered, Making, no_making, making, activates, drops, closes, asks_to_close, names, opens, loads_in, Birth, no_birth, bears, shows, frames_after, loads_after, tops_after, navs_after, docs_after, groups_after}
+use Rattle.tree_log.specs.Facts.{newest, some_entry, gathered, no_number, Making, no_making, making, activates, drops, says_gone, says_closing, names, says_opener, loads_in, Birth, no_birth, bears, shows, frames_after, loads_after, tops_after, navs_after, docs_after, groups_after}
 
 -- what is known of a navigable
 pub record Nav : Type 0 where
@@ -37,12 +38,12 @@ pub record Tree : Type 0 where
 abbrev pub nav_in : List Entry → ℕ → Nav
 nav_in log n = record {
   made = newest (λ e. making n e.actor e.what) no_making log;
-  active = newest (λ e. activates n e.what) 0 log;
+  active = newest (λ e. activates n e.what) no_number log;
   dropped = some_entry (λ e. drops n e.what) log;
-  gone = some_entry (λ e. closes n e.what) log;
-  closing = some_entry (λ e. asks_to_close n e.what) log;
+  gone = some_entry (λ e. says_gone n e.what) log;
+  closing = some_entry (λ e. says_closing n e.what) log;
   name = newest (λ e. names n e.what) [] log;
-  opener = newest (λ e. opens n e.what) None log;
+  opener = newest (λ e. says_opener n e.what) None log;
   last_load = newest (λ e. loads_in n e.what) None log;
 }
 
@@ -64,8 +65,8 @@ tree_of log = record {
 }
 
 -- the tree after one more entry: for each fact the entry decides, if it says anything
-unfoldable pub after : Tree → Entry → Tree
-after t e = record {
+unfoldable pub tree_after : Tree → Entry → Tree
+tree_after t e = record {
   len = suc t.len;
   navs = navs_after e.what t.navs;
   docs = docs_after e.what t.docs;
@@ -74,10 +75,10 @@ after t e = record {
     made = unwrap_or (making n e.actor e.what) (t.nav n).made;
     active = unwrap_or (activates n e.what) (t.nav n).active;
     dropped = drops n e.what || (t.nav n).dropped;
-    gone = closes n e.what || (t.nav n).gone;
-    closing = asks_to_close n e.what || (t.nav n).closing;
+    gone = says_gone n e.what || (t.nav n).gone;
+    closing = says_closing n e.what || (t.nav n).closing;
     name = unwrap_or (names n e.what) (t.nav n).name;
-    opener = unwrap_or (opens n e.what) (t.nav n).opener;
+    opener = unwrap_or (says_opener n e.what) (t.nav n).opener;
     last_load = unwrap_or (loads_in n e.what) (t.nav n).last_load;
   };
   doc = λ d. record { born = unwrap_or (bears d e.what) (t.doc d).born; been_active = shows d e.what || (t.doc d).been_active };
@@ -87,8 +88,8 @@ after t e = record {
 }
 
 -- one more entry of the log is one step of the tree
-pub tree_of_step : (e : Entry) (log : List Entry) → tree_of (e ∷ log) ≡ after (tree_of log) e
-unfolding tree_of after
+pub tree_of_step : (e : Entry) (log : List Entry) → tree_of (e ∷ log) ≡ tree_after (tree_of log) e
+unfolding tree_of tree_after
 tree_of_step e log = refl
 
 abbrev pub embedder : Tree → ℕ → Option ℕ
@@ -99,6 +100,10 @@ nav_of t d = (t.doc d).born.nav
 
 abbrev pub origin_of : Tree → ℕ → Origin
 origin_of t d = (t.doc d).born.origin
+
+-- whether two documents are same origin-domain (HTML Standard, 7.1.1)
+abbrev pub same_domain : Tree → ℕ → ℕ → Bool
+same_domain t a b = is_same_origin_domain (origin_of t a) (origin_of t b)
 
 abbrev pub home_of : Tree → ℕ → ℕ
 home_of t d = (t.doc d).born.home
@@ -155,8 +160,9 @@ rest_of (n ∷ ns) = ns
 unfoldable pub ancestors : Tree → ℕ → List ℕ
 ancestors t n = if is_discarded t n then [] else rest_of (chain t n)
 
+-- whether n is there and no document embeds it
 abbrev pub is_top_level : Tree → ℕ → Bool
-is_top_level t n = is_none (embedder t n)
+is_top_level t n = nat_lt n t.navs && is_none (embedder t n)
 
 -- the group of n: that of its top-level
 unfoldable pub group_of : Tree → ℕ → Option ℕ

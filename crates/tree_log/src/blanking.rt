@@ -1,4 +1,4 @@
-ghost use Rattle.std.specs.Prelude.{◌≡◌, IfOk, if◌then◌else◌, codes};
+ghost use Rattle.std.specs.Prelude.{◌≡◌, IfOk, OnOk, if◌then◌else◌, codes};
 ghost use Rattle.tree_log.specs.Blanking as spec;
 ghost use Rattle.tree_log.specs.Blanking.{homed_at};
 ghost use Rattle.tree_log.specs.Tree.{tree_of};
@@ -38,10 +38,12 @@ pub fn blank(alloc: Global, entry: &Entry, kept: &[u32]) -> Result<Entry, AllocE
             what: What::Hidden,
         });
     }
+    let mut what = entry.what.clone()?;
+    blank_what(alloc, &mut what, kept)?;
     Ok(Entry {
         by: entry.by,
         actor: entry.actor,
-        what: blank_what(alloc, &entry.what, kept)?,
+        what,
     })
 }
 
@@ -62,101 +64,50 @@ fn is_kept(kept: &[u32], doc: u32) -> bool
     kept.contains(&doc)
 }
 
-fn blank_what(alloc: Global, what: &What, kept: &[u32]) -> Result<What, AllocError>
-    ensures { IfOk result (λ shown. shown ≡ spec.blank_what (spec.is_kept kept.now) what.now) }
+fn blank_what(alloc: Global, what: &mut What, kept: &[u32]) -> Result<(), AllocError>
+    ensures { OnOk result (what.new ≡ spec.blank_what (spec.is_kept kept.now) what.old) }
 {
     match what {
-        What::Open {
-            nav,
-            doc,
-            group,
-            home,
-            origin,
-            name,
-            opener,
-            flags,
-            navigator,
-            load,
-        } => Ok(What::Open {
-            nav: *nav,
-            doc: *doc,
-            group: *group,
-            home: *home,
-            origin: origin.clone()?,
-            name: name.clone()?,
-            opener: *opener,
-            flags: *flags,
-            navigator: *navigator,
-            load: blank_load_or_none(alloc, load, kept)?,
-        }),
-        What::Frame {
-            nav,
-            doc,
-            home,
-            origin,
-            name,
-            flags,
-            load,
-        } => Ok(What::Frame {
-            nav: *nav,
-            doc: *doc,
-            home: *home,
-            origin: origin.clone()?,
-            name: name.clone()?,
-            flags: *flags,
-            load: blank_load_or_none(alloc, load, kept)?,
-        }),
-        What::Begin { nav, load } => Ok(What::Begin {
-            nav: *nav,
-            load: blank_load(alloc, load, kept)?,
-        }),
-        What::Fragment { nav, doc, url } => Ok(What::Fragment {
-            nav: *nav,
-            doc: *doc,
-            url: blank_fragment(alloc, *doc, url, kept)?,
-        }),
-        other => other.clone(),
+        What::Open { load, .. } => blank_load_or_none(alloc, load, kept),
+        What::Frame { load, .. } => blank_load_or_none(alloc, load, kept),
+        What::Begin { load, .. } => blank_load(alloc, load, kept),
+        What::Fragment { doc, url, .. } => blank_fragment(alloc, *doc, url, kept),
+        _ => Ok(()),
     }
 }
 
 fn blank_load_or_none(
     alloc: Global,
-    load: &Option<Load>,
+    load: &mut Option<Load>,
     kept: &[u32],
-) -> Result<Option<Load>, AllocError>
-    ensures { IfOk result (λ shown. shown ≡ spec.blank_load_or_none (spec.is_kept kept.now) load.now) }
+) -> Result<(), AllocError>
+    ensures { OnOk result (load.new ≡ spec.blank_load_or_none (spec.is_kept kept.now) load.old) }
 {
     match load {
-        Some(load) => Ok(Some(blank_load(alloc, load, kept)?)),
-        None => Ok(None),
+        Some(load) => blank_load(alloc, load, kept),
+        None => Ok(()),
     }
 }
 
-fn blank_load(alloc: Global, load: &Load, kept: &[u32]) -> Result<Load, AllocError>
-    ensures { IfOk result (λ shown. shown ≡ spec.blank_load (spec.is_kept kept.now) load.now) }
+fn blank_load(alloc: Global, load: &mut Load, kept: &[u32]) -> Result<(), AllocError>
+    ensures { OnOk result (load.new ≡ spec.blank_load (spec.is_kept kept.now) load.old) }
 {
-    if is_kept(kept, load.doc) {
-        return load.clone();
+    if !is_kept(kept, load.doc) {
+        load.url = blank_url(alloc, &load.origin)?;
     }
-    Ok(Load {
-        doc: load.doc,
-        home: load.home,
-        origin: load.origin.clone()?,
-        url: blank_url(alloc, &load.origin)?,
-    })
+    Ok(())
 }
 
 fn blank_fragment(
     alloc: Global,
     doc: u32,
-    url: &PageUrl,
+    url: &mut PageUrl,
     kept: &[u32],
-) -> Result<PageUrl, AllocError>
-    ensures { IfOk result (λ shown. shown ≡ (if spec.is_kept kept.now doc then url.now else codes "about:blank")) }
+) -> Result<(), AllocError>
+    ensures { OnOk result (url.new ≡ (if spec.is_kept kept.now doc then url.old else codes "about:blank")) }
 {
-    if is_kept(kept, doc) {
-        url.clone()
-    } else {
-        blank_url(alloc, &Origin::Opaque(doc))
+    if !is_kept(kept, doc) {
+        *url = blank_url(alloc, &Origin::Opaque(doc))?;
     }
+    Ok(())
 }

@@ -13,8 +13,6 @@ mod homes;
 pub mod laws;
 mod log;
 mod range;
-#[cfg(test)]
-mod tests;
 
 pub use blanking::{blank, kept_for_renderer};
 pub use entry::{Cause, Entry, Load, Target, What};

@@ -11,7 +11,7 @@ use Rattle.tree_log.specs.declared.entry.Target.{Target}
 use Rattle.tree_log.specs.declared.entry.Cause.{Cause}
 use Rattle.tree_log.specs.declared.entry.What.TheVariants.{Open, Frame, Drop, Name, Begin, Commit, Fragment, Opener, Closing, Gone, Post, Fire, Lapse, Lost, Sync, Hidden}
 use Rattle.tree_log.specs.Facts.{Birth, doc_of_load, loads_of, with_frame, with_load}
-use Rattle.tree_log.specs.Tree.{Tree, Nav, Doc, after, is}
+use Rattle.tree_log.specs.Tree.{Tree, Nav, Doc, tree_after, is}
 use Rattle.tree_log.specs.Urls.{urls_after}
 use Rattle.tree_view.specs.declared.plain.rows.NavRow.{NavRow}
 use Rattle.tree_view.specs.declared.plain.rows.DocRow.{DocRow}
@@ -30,45 +30,45 @@ same_known a b len navs docs groups nav doc frames tops loads urls = λ i. recor
 
 -- A FIELD OF A NAVIGABLE
 
-drop_nav : (t : Tree) (by actor : Option ℕ) (i n : ℕ) → (after t (entry by actor (Drop i))).nav n ≡ cond (eqb i n) (record (t.nav n) { dropped = true }) (t.nav n)
-unfolding after
+drop_nav : (t : Tree) (by actor : Option ℕ) (i n : ℕ) → (tree_after t (entry by actor (Drop i))).nav n ≡ cond (eqb i n) (record (t.nav n) { dropped = true }) (t.nav n)
+unfolding tree_after
 drop_nav t by actor i n = elim (eqb_tells i n) [ inl p ↦ rw p.0 refl | inr p ↦ rw p.0 refl ]
 
-gone_nav : (t : Tree) (by actor : Option ℕ) (i n : ℕ) → (after t (entry by actor (Gone i))).nav n ≡ cond (eqb i n) (record (t.nav n) { gone = true }) (t.nav n)
-unfolding after
+gone_nav : (t : Tree) (by actor : Option ℕ) (i n : ℕ) → (tree_after t (entry by actor (Gone i))).nav n ≡ cond (eqb i n) (record (t.nav n) { gone = true }) (t.nav n)
+unfolding tree_after
 gone_nav t by actor i n = elim (eqb_tells i n) [ inl p ↦ rw p.0 refl | inr p ↦ rw p.0 refl ]
 
-closing_nav : (t : Tree) (by actor : Option ℕ) (i n : ℕ) → (after t (entry by actor (Closing i))).nav n ≡ cond (eqb i n) (record (t.nav n) { closing = true }) (t.nav n)
-unfolding after
+closing_nav : (t : Tree) (by actor : Option ℕ) (i n : ℕ) → (tree_after t (entry by actor (Closing i))).nav n ≡ cond (eqb i n) (record (t.nav n) { closing = true }) (t.nav n)
+unfolding tree_after
 closing_nav t by actor i n = elim (eqb_tells i n) [ inl p ↦ rw p.0 refl | inr p ↦ rw p.0 refl ]
 
-name_nav : (t : Tree) (by actor : Option ℕ) (i n : ℕ) (name : List ℕ) → (after t (entry by actor (Name i name))).nav n ≡ cond (eqb i n) (record (t.nav n) { name = name }) (t.nav n)
-unfolding after
+name_nav : (t : Tree) (by actor : Option ℕ) (i n : ℕ) (name : List ℕ) → (tree_after t (entry by actor (Name i name))).nav n ≡ cond (eqb i n) (record (t.nav n) { name = name }) (t.nav n)
+unfolding tree_after
 name_nav t by actor i n name = elim (eqb_tells i n) [ inl p ↦ rw p.0 refl | inr p ↦ rw p.0 refl ]
 
-opener_nav : (t : Tree) (by actor : Option ℕ) (i n : ℕ) (to : Option ℕ) → (after t (entry by actor (Opener i to))).nav n ≡ cond (eqb i n) (record (t.nav n) { opener = to }) (t.nav n)
-unfolding after
+opener_nav : (t : Tree) (by actor : Option ℕ) (i n : ℕ) (to : Option ℕ) → (tree_after t (entry by actor (Opener i to))).nav n ≡ cond (eqb i n) (record (t.nav n) { opener = to }) (t.nav n)
+unfolding tree_after
 opener_nav t by actor i n to = elim (eqb_tells i n) [ inl p ↦ rw p.0 refl | inr p ↦ rw p.0 refl ]
 
-commit_nav : (t : Tree) (by actor : Option ℕ) (i d b n : ℕ) → (after t (entry by actor (Commit i d b))).nav n ≡ cond (eqb i n) (record (t.nav n) { active = d }) (t.nav n)
-unfolding after
+commit_nav : (t : Tree) (by actor : Option ℕ) (i d b n : ℕ) → (tree_after t (entry by actor (Commit i d b))).nav n ≡ cond (eqb i n) (record (t.nav n) { active = d }) (t.nav n)
+unfolding tree_after
 commit_nav t by actor i d b n = elim (eqb_tells i n) [ inl p ↦ rw p.0 refl | inr p ↦ rw p.0 refl ]
 
-begin_nav : (t : Tree) (by actor : Option ℕ) (i n : ℕ) (load : Load) → (after t (entry by actor (Begin i load))).nav n ≡ cond (eqb i n) (record (t.nav n) { last_load = Some load.doc }) (t.nav n)
-unfolding after
+begin_nav : (t : Tree) (by actor : Option ℕ) (i n : ℕ) (load : Load) → (tree_after t (entry by actor (Begin i load))).nav n ≡ cond (eqb i n) (record (t.nav n) { last_load = Some load.doc }) (t.nav n)
+unfolding tree_after
 begin_nav t by actor i n load = elim (eqb_tells i n) [ inl p ↦ rw p.0 refl | inr p ↦ rw p.0 refl ]
 
 -- A FIELD OF A DOCUMENT
 
-commit_doc : (t : Tree) (by actor : Option ℕ) (i d b k : ℕ) → (after t (entry by actor (Commit i d b))).doc k ≡ cond (eqb d k) (record (t.doc k) { been_active = true }) (t.doc k)
-unfolding after
+commit_doc : (t : Tree) (by actor : Option ℕ) (i d b k : ℕ) → (tree_after t (entry by actor (Commit i d b))).doc k ≡ cond (eqb d k) (record (t.doc k) { been_active = true }) (t.doc k)
+unfolding tree_after
 commit_doc t by actor i d b k = elim (eqb_tells d k) [ inl p ↦ rw p.0 refl | inr p ↦ rw p.0 refl ]
 
 abbrev birth_of : ℕ → Load → Birth
 birth_of nav load = record { nav = nav; origin = load.origin; home = load.home; loaded = true }
 
-begin_doc : (t : Tree) (by actor : Option ℕ) (i k : ℕ) (load : Load) → (after t (entry by actor (Begin i load))).doc k ≡ cond (eqb load.doc k) (record (t.doc k) { born = birth_of i load }) (t.doc k)
-unfolding after
+begin_doc : (t : Tree) (by actor : Option ℕ) (i k : ℕ) (load : Load) → (tree_after t (entry by actor (Begin i load))).doc k ≡ cond (eqb load.doc k) (record (t.doc k) { born = birth_of i load }) (t.doc k)
+unfolding tree_after
 begin_doc t by actor i k load = elim (eqb_tells load.doc k) [ inl p ↦ rw p.0 refl | inr p ↦ rw p.0 refl ]
 
 begin_url : (urls : ℕ → List ℕ) (by actor : Option ℕ) (i k : ℕ) (load : Load) → urls_after urls (entry by actor (Begin i load)) k ≡ cond (eqb load.doc k) load.url (urls k)
@@ -82,15 +82,15 @@ fragment_url urls by actor i d k url = elim (eqb_tells d k) [ inl p ↦ rw p.0 r
 -- A NEW NAVIGABLE
 
 open_nav : (t : Tree) (by actor : Option ℕ) (i d g h n : ℕ) (o : Origin) (name : List ℕ) (opener : Option ℕ) (flags : ℕ) (navigator : Option ℕ) (load : Option Load)
-    → (after t (entry by actor (Open i d g h o name opener flags navigator load))).nav n
+    → (tree_after t (entry by actor (Open i d g h o name opener flags navigator load))).nav n
     ≡ cond (eqb i n) (record (t.nav n) { made = record { embedder = None; group = Some g; flags = flags; navigator = navigator; scripted = is_some actor }; active = d; name = name; opener = opener; last_load = doc_of_load load }) (t.nav n)
-unfolding after
+unfolding tree_after
 open_nav t by actor i d g h n o name opener flags navigator load = elim (eqb_tells i n) [ inl p ↦ rw p.0 refl | inr p ↦ rw p.0 refl ]
 
 frame_nav : (t : Tree) (by actor : Option ℕ) (i d h n : ℕ) (o : Origin) (name : List ℕ) (flags : ℕ) (load : Option Load)
-    → (after t (entry by actor (Frame i d h o name flags load))).nav n
+    → (tree_after t (entry by actor (Frame i d h o name flags load))).nav n
     ≡ cond (eqb i n) (record (t.nav n) { made = record { embedder = actor; group = None; flags = flags; navigator = None; scripted = false }; active = d; name = name; last_load = doc_of_load load }) (t.nav n)
-unfolding after
+unfolding tree_after
 frame_nav t by actor i d h n o name flags load = elim (eqb_tells i n) [ inl p ↦ rw p.0 refl | inr p ↦ rw p.0 refl ]
 
 -- the documents that come with a new navigable
@@ -102,15 +102,15 @@ with_docs i d o h None k old = cond (eqb d k) (record { born = first_birth i o h
 with_docs i d o h (Some l) k old = cond (eqb d k) (record { born = first_birth i o h; been_active = true }) (cond (eqb l.doc k) (record old { born = birth_of i l }) old)
 
 open_doc : (t : Tree) (by actor : Option ℕ) (i d g h k : ℕ) (o : Origin) (name : List ℕ) (opener : Option ℕ) (flags : ℕ) (navigator : Option ℕ) (load : Option Load)
-    → (after t (entry by actor (Open i d g h o name opener flags navigator load))).doc k ≡ with_docs i d o h load k (t.doc k)
-unfolding after
+    → (tree_after t (entry by actor (Open i d g h o name opener flags navigator load))).doc k ≡ with_docs i d o h load k (t.doc k)
+unfolding tree_after
 open_doc t by actor i d g h k o name opener flags navigator None = elim (eqb_tells d k) [ inl p ↦ rw p.0 refl | inr p ↦ rw p.0 refl ]
 open_doc t by actor i d g h k o name opener flags navigator (Some l) =
     elim (eqb_tells d k) [ inl p ↦ rw p.0 refl | inr p ↦ rw p.0 (elim (eqb_tells l.doc k) [ inl q ↦ rw q.0 refl | inr q ↦ rw q.0 refl ]) ]
 
 frame_doc : (t : Tree) (by actor : Option ℕ) (i d h k : ℕ) (o : Origin) (name : List ℕ) (flags : ℕ) (load : Option Load)
-    → (after t (entry by actor (Frame i d h o name flags load))).doc k ≡ with_docs i d o h load k (t.doc k)
-unfolding after
+    → (tree_after t (entry by actor (Frame i d h o name flags load))).doc k ≡ with_docs i d o h load k (t.doc k)
+unfolding tree_after
 frame_doc t by actor i d h k o name flags None = elim (eqb_tells d k) [ inl p ↦ rw p.0 refl | inr p ↦ rw p.0 refl ]
 frame_doc t by actor i d h k o name flags (Some l) =
     elim (eqb_tells d k) [ inl p ↦ rw p.0 refl | inr p ↦ rw p.0 (elim (eqb_tells l.doc k) [ inl q ↦ rw q.0 refl | inr q ↦ rw q.0 refl ]) ]
@@ -207,7 +207,7 @@ nav_row navs i = get_or navs i no_nav
 
 pub after_drop : (navs : List NavRow) (docs : List DocRow) (groups len : ℕ) (by actor : Option ℕ) (i : ℕ) → i < length navs
     → K (set navs i (record (nav_row navs i) { dropped = true })) docs groups (len + 1) ≡ after_known (K navs docs groups len) (entry by actor (Drop i))
-unfolding after urls_after
+unfolding tree_after urls_after
 after_drop navs docs groups len by actor i h =
     let row : NavRow = record (nav_row navs i) { dropped = true } in
     same_known _ _ (add-one len) (length-set navs i row) refl refl
@@ -218,7 +218,7 @@ after_drop navs docs groups len by actor i h =
 
 pub after_gone : (navs : List NavRow) (docs : List DocRow) (groups len : ℕ) (by actor : Option ℕ) (i : ℕ) → i < length navs
     → K (set navs i (record (nav_row navs i) { gone = true })) docs groups (len + 1) ≡ after_known (K navs docs groups len) (entry by actor (Gone i))
-unfolding after urls_after
+unfolding tree_after urls_after
 after_gone navs docs groups len by actor i h =
     let row : NavRow = record (nav_row navs i) { gone = true } in
     same_known _ _ (add-one len) (length-set navs i row) refl refl
@@ -229,7 +229,7 @@ after_gone navs docs groups len by actor i h =
 
 pub after_closing : (navs : List NavRow) (docs : List DocRow) (groups len : ℕ) (by actor : Option ℕ) (i : ℕ) → i < length navs
     → K (set navs i (record (nav_row navs i) { closing = true })) docs groups (len + 1) ≡ after_known (K navs docs groups len) (entry by actor (Closing i))
-unfolding after urls_after
+unfolding tree_after urls_after
 after_closing navs docs groups len by actor i h =
     let row : NavRow = record (nav_row navs i) { closing = true } in
     same_known _ _ (add-one len) (length-set navs i row) refl refl
@@ -240,7 +240,7 @@ after_closing navs docs groups len by actor i h =
 
 pub after_name : (navs : List NavRow) (docs : List DocRow) (groups len : ℕ) (by actor : Option ℕ) (i : ℕ) (name : List ℕ) → i < length navs
     → K (set navs i (record (nav_row navs i) { name = name })) docs groups (len + 1) ≡ after_known (K navs docs groups len) (entry by actor (Name i name))
-unfolding after urls_after
+unfolding tree_after urls_after
 after_name navs docs groups len by actor i name h =
     let row : NavRow = record (nav_row navs i) { name = name } in
     same_known _ _ (add-one len) (length-set navs i row) refl refl
@@ -251,7 +251,7 @@ after_name navs docs groups len by actor i name h =
 
 pub after_opener : (navs : List NavRow) (docs : List DocRow) (groups len : ℕ) (by actor : Option ℕ) (i : ℕ) (to : Option ℕ) → i < length navs
     → K (set navs i (record (nav_row navs i) { opener = to })) docs groups (len + 1) ≡ after_known (K navs docs groups len) (entry by actor (Opener i to))
-unfolding after urls_after
+unfolding tree_after urls_after
 after_opener navs docs groups len by actor i to h =
     let row : NavRow = record (nav_row navs i) { opener = to } in
     same_known _ _ (add-one len) (length-set navs i row) refl refl
@@ -263,7 +263,7 @@ after_opener navs docs groups len by actor i to h =
 pub after_commit : (navs : List NavRow) (docs : List DocRow) (groups len : ℕ) (by actor : Option ℕ) (i d b : ℕ) → i < length navs → d < length docs
     → K (set navs i (record (nav_row navs i) { active = d })) (set docs d (record (get_or docs d no_doc) { been_active = true })) groups (len + 1)
     ≡ after_known (K navs docs groups len) (entry by actor (Commit i d b))
-unfolding after urls_after
+unfolding tree_after urls_after
 after_commit navs docs groups len by actor i d b h hd =
     let row : NavRow = record (nav_row navs i) { active = d } in
     let doc : DocRow = record (get_or docs d no_doc) { been_active = true } in
@@ -276,7 +276,7 @@ after_commit navs docs groups len by actor i d b h hd =
 
 pub after_fragment : (navs : List NavRow) (docs : List DocRow) (groups len : ℕ) (by actor : Option ℕ) (i d : ℕ) (url : List ℕ) → d < length docs
     → K navs (set docs d (record (get_or docs d no_doc) { url = url })) groups (len + 1) ≡ after_known (K navs docs groups len) (entry by actor (Fragment i d url))
-unfolding after
+unfolding tree_after
 after_fragment navs docs groups len by actor i d url hd =
     let doc : DocRow = record (get_or docs d no_doc) { url = url } in
     same_known _ _ (add-one len) refl (length-set docs d doc) refl (λ n. refl)
@@ -287,7 +287,7 @@ after_fragment navs docs groups len by actor i d url hd =
 pub after_begin : (navs : List NavRow) (docs : List DocRow) (groups len : ℕ) (by actor : Option ℕ) (i : ℕ) (load : Load) → i < length navs → length docs ≡ load.doc
     → K (set navs i (record (nav_row navs i) { last_load = Some load.doc })) (docs ++ load_row i load ∷ []) groups (len + 1)
     ≡ after_known (K navs docs groups len) (entry by actor (Begin i load))
-unfolding after
+unfolding tree_after
 after_begin navs docs groups len by actor i load h e =
     let row : NavRow = record (nav_row navs i) { last_load = Some load.doc } in
     let doc : DocRow = load_row i load in
@@ -301,27 +301,27 @@ after_begin navs docs groups len by actor i load h e =
 
 -- entries that say nothing of the tree
 pub after_post : (navs : List NavRow) (docs : List DocRow) (groups len : ℕ) (by actor : Option ℕ) (to from : ℕ) (o : Origin) (target : Target) (body : Data) → K navs docs groups (len + 1) ≡ after_known (K navs docs groups len) (entry by actor (Post to from o target body))
-unfolding after urls_after
+unfolding tree_after urls_after
 after_post navs docs groups len by actor to from o target body = same_known _ _ (add-one len) refl refl refl (λ n. refl) (λ d. refl) (λ d. refl) refl refl (λ d. refl)
 
 pub after_fire : (navs : List NavRow) (docs : List DocRow) (groups len : ℕ) (by actor : Option ℕ) (doc post : ℕ) → K navs docs groups (len + 1) ≡ after_known (K navs docs groups len) (entry by actor (Fire doc post))
-unfolding after urls_after
+unfolding tree_after urls_after
 after_fire navs docs groups len by actor doc post = same_known _ _ (add-one len) refl refl refl (λ n. refl) (λ d. refl) (λ d. refl) refl refl (λ d. refl)
 
 pub after_lapse : (navs : List NavRow) (docs : List DocRow) (groups len : ℕ) (by actor : Option ℕ) (doc post : ℕ) (cause : Cause) → K navs docs groups (len + 1) ≡ after_known (K navs docs groups len) (entry by actor (Lapse doc post cause))
-unfolding after urls_after
+unfolding tree_after urls_after
 after_lapse navs docs groups len by actor doc post cause = same_known _ _ (add-one len) refl refl refl (λ n. refl) (λ d. refl) (λ d. refl) refl refl (λ d. refl)
 
 pub after_lost : (navs : List NavRow) (docs : List DocRow) (groups len : ℕ) (by actor : Option ℕ) (renderer : ℕ) → K navs docs groups (len + 1) ≡ after_known (K navs docs groups len) (entry by actor (Lost renderer))
-unfolding after urls_after
+unfolding tree_after urls_after
 after_lost navs docs groups len by actor renderer = same_known _ _ (add-one len) refl refl refl (λ n. refl) (λ d. refl) (λ d. refl) refl refl (λ d. refl)
 
 pub after_sync : (navs : List NavRow) (docs : List DocRow) (groups len : ℕ) (by actor : Option ℕ) → K navs docs groups (len + 1) ≡ after_known (K navs docs groups len) (entry by actor (Sync))
-unfolding after urls_after
+unfolding tree_after urls_after
 after_sync navs docs groups len by actor = same_known _ _ (add-one len) refl refl refl (λ n. refl) (λ d. refl) (λ d. refl) refl refl (λ d. refl)
 
 pub after_hidden : (navs : List NavRow) (docs : List DocRow) (groups len : ℕ) (by actor : Option ℕ) → K navs docs groups (len + 1) ≡ after_known (K navs docs groups len) (entry by actor (Hidden))
-unfolding after urls_after
+unfolding tree_after urls_after
 after_hidden navs docs groups len by actor = same_known _ _ (add-one len) refl refl refl (λ n. refl) (λ d. refl) (λ d. refl) refl refl (λ d. refl)
 
 framed_last : (d m : ℕ) (actor : Option ℕ) (before : List ℕ) → before ++ if_so (is actor d) m ≡ with_frame d actor m before
@@ -332,7 +332,7 @@ pub after_open : (navs : List NavRow) (docs : List DocRow) (groups len : ℕ) (b
     → length navs ≡ i → length docs ≡ d → ForSome load (λ l. l.doc ≡ d + 1)
     → K (navs ++ opened_row actor d g name opener flags navigator load ∷ []) (docs ++ new_docs (initial_row i o h) (load_row_if_any i load)) (grown groups (Some g)) (len + 1)
     ≡ after_known (K navs docs groups len) (entry by actor (Open i d g h o name opener flags navigator load))
-unfolding after
+unfolding tree_after
 after_open navs docs groups len by actor i d g h o name opener flags navigator load e ed next =
     let row : NavRow = opened_row actor d g name opener flags navigator load in
     same_known _ _ (add-one len) (length-append navs (row ∷ [])) (docs_counted docs i h o load) refl
@@ -348,7 +348,7 @@ pub after_frame : (navs : List NavRow) (docs : List DocRow) (groups len : ℕ) (
     → length navs ≡ i → length docs ≡ d → ForSome load (λ l. l.doc ≡ d + 1)
     → K (navs ++ framed_row actor d name flags load ∷ []) (docs ++ new_docs (initial_row i o h) (load_row_if_any i load)) groups (len + 1)
     ≡ after_known (K navs docs groups len) (entry by actor (Frame i d h o name flags load))
-unfolding after
+unfolding tree_after
 after_frame navs docs groups len by actor i d h o name flags load e ed next =
     let row : NavRow = framed_row actor d name flags load in
     same_known _ _ (add-one len) (length-append navs (row ∷ [])) (docs_counted docs i h o load) refl

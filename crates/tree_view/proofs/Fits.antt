@@ -120,6 +120,14 @@ loaded_nav navs i (Some l) e r q = let is : i ≡ r.nav = ap nav_if_any q in sym
     nav_if_any None = 0
     nav_if_any (Some row) = row.nav
 
+loaded_marked : (i : ℕ) (load : Option Load) → ForSome (load_row_if_any i load) (λ r. r.loaded ≡ true)
+loaded_marked i None r q = absurd cc
+loaded_marked i (Some l) r q = sym (ap mark_if_any q)
+  where
+    mark_if_any : Option DocRow → Bool
+    mark_if_any None = true
+    mark_if_any (Some row) = row.loaded
+
 some_docs : (i d h : ℕ) (o : Origin) (load : Option Load) → 0 < length (new_docs (initial_row i o h) (load_row_if_any i load))
 some_docs i d h o None = omega arith
 some_docs i d h o (Some l) = omega arith
@@ -176,6 +184,8 @@ fits_what t by actor (Open i d g h o name opener flags navigator load) new is a 
       embedder = λ x e. absurd cc;
       initial = sym m.nav;
       loaded = loaded_nav t.navs i load m.nav;
+      not_loaded = refl;
+      marked = loaded_marked i load;
     })
 fits_what t by actor (Frame i d h o name flags load) new is a =
     let m = frame_makes t by actor i d h o name flags load a in
@@ -198,6 +208,8 @@ fits_what t by actor (Frame i d h o name flags load) new is a =
       embedder = acting.1;
       initial = sym m.nav;
       loaded = loaded_nav t.navs i load m.nav;
+      not_loaded = refl;
+      marked = loaded_marked i load;
     })
 fits_what t by actor _ new is a = absurd cc
 

@@ -5,3 +5,5 @@ pub mod Fits
 pub mod NewLaws
 pub mod Walk
 pub mod Kids
+pub mod Loads
+pub mod Rewritten

@@ -1,5 +1,5 @@
 -- What holds of the rows of each view: what they name is there.
-use Rattle.std.specs.Prelude.{◌≡◌, ℕ, ◌<◌, ◌+◌, ◌||◌, true, List, length, get_or, Some, is_some}
+use Rattle.std.specs.Prelude.{◌≡◌, ℕ, ◌<◌, ◌+◌, ◌||◌, true, false, List, length, get_or, Some, is_some}
 use Rattle.std.specs.Option.{ForSome}
 use Rattle.tree_view.specs.declared.plain.rows.NavRow.{NavRow}
 use Rattle.tree_view.specs.declared.plain.rows.DocRow.{DocRow}
@@ -31,3 +31,5 @@ pub record FitsNew (navs docs groups : ℕ) (new : NewRows) : Type 0 where
   pub embedder : ForSome new.row.made.embedder (λ d. d < docs)
   pub initial : new.initial.nav ≡ navs
   pub loaded : ForSome new.loaded (λ d. d.nav ≡ navs)
+  pub not_loaded : new.initial.loaded ≡ false
+  pub marked : ForSome new.loaded (λ d. d.loaded ≡ true)

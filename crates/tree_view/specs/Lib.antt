@@ -3,3 +3,4 @@ pub mod NewRows
 pub mod Closed
 pub mod Shown
 pub mod Ordered
+pub mod Committing

@@ -3,8 +3,8 @@ use Rattle.std.specs.Prelude.{ℕ, suc, ◌+◌, List, [], ◌∷◌, ◌++◌, 
 use Rattle.origin_core.specs.declared.origin.Origin.{Origin}
 use Rattle.origin_core.specs.declared.origin.Origin.TheVariants.{Opaque}
 use Rattle.tree_log.specs.declared.entry.Load.{Load}
-use Rattle.tree_log.specs.Facts.{Making, Birth}
-use Rattle.tree_log.specs.Tree.{Tree, Nav, Doc, after, is}
+use Rattle.tree_log.specs.Facts.{no_number, Making, Birth}
+use Rattle.tree_log.specs.Tree.{Tree, Nav, Doc, tree_after, is}
 use Rattle.tree_log.specs.Urls.{urls_after}
 use Rattle.tree_log.specs.declared.entry.Entry.{Entry}
 use Rattle.tree_view.specs.declared.plain.rows.MadeRow.{MadeRow}
@@ -36,7 +36,7 @@ doc_facts row = record { born = birth_facts row; been_active = row.been_active }
 abbrev pub no_nav : NavRow
 no_nav = record {
   made = record { embedder = None; group = None; flags = 0; navigator = None; scripted = false };
-  active = 0;
+  active = no_number;
   dropped = false;
   gone = false;
   closing = false;
@@ -46,7 +46,7 @@ no_nav = record {
 }
 
 abbrev pub no_doc : DocRow
-no_doc = record { nav = 0; origin = Opaque 0; home = 65536; loaded = false; been_active = false; url = codes "about:blank" }
+no_doc = record { nav = no_number; origin = Opaque no_number; home = 65536; loaded = false; been_active = false; url = codes "about:blank" }
 
 -- the number k, if a test passes
 abbrev pub if_so : Bool → ℕ → List ℕ
@@ -89,7 +89,7 @@ known_of navs docs groups len = record {
 
 -- what is known after one more entry
 abbrev pub after_known : Known → Entry → Known
-after_known k e = record { tree = after k.tree e; urls = urls_after k.urls e }
+after_known k e = record { tree = tree_after k.tree e; urls = urls_after k.urls e }
 
 -- the rows of new documents
 abbrev pub initial_row : ℕ → Origin → ℕ → DocRow
@@ -105,6 +105,11 @@ load_row_if_any nav (Some load) = Some (load_row nav load)
 abbrev pub new_docs : DocRow → Option DocRow → List DocRow
 new_docs initial None = initial ∷ []
 new_docs initial (Some loaded) = initial ∷ loaded ∷ []
+
+-- the numbers of those that were loaded, behind so many documents
+abbrev pub new_loads : ℕ → Option DocRow → List ℕ
+new_loads docs None = []
+new_loads docs (Some _) = (docs + 1) ∷ []
 
 -- how many groups there are with that of a new navigable
 abbrev pub grown : ℕ → Option ℕ → ℕ

@@ -5,9 +5,8 @@
 //! for each navigable and each document.
 #![tactic(auto)]
 
+mod admits;
 mod plain;
-#[cfg(test)]
-mod tests;
 mod view;
 
 pub use plain::PlainView;

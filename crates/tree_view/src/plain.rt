@@ -1,4 +1,3 @@
-mod admits;
 mod applies;
 mod family;
 mod new;

@@ -1,10 +1,10 @@
-ghost use Rattle.std.specs.Prelude.{◌≡◌, ◌<◌, ℕ, List, length, slice_get, Some, OnOk, OnErr, IfSome, IsTrue};
-ghost use Rattle.origin_core.specs.Origin.{is_same_origin_domain};
-ghost use Rattle.tree_log.specs.Tree.{Tree, after, nav_of, origin_of, home_of, is_active, is_discarded, parent_of, top_level_of, is_top_level, group_of, children_of};
+ghost use Rattle.std.specs.Prelude.{◌≡◌, ◌<◌, ℕ, List, length, slice_get, All, Some, OnOk, OnErr, IfSome, IsTrue};
+ghost use Rattle.tree_log.specs.Tree.{Tree, tree_after, nav_of, origin_of, home_of, is_active, is_discarded, parent_of, top_level_of, is_top_level, group_of, children_of, same_domain};
 ghost use Rattle.tree_log.specs.NamedChildren.{child_named};
 ghost use Rattle.tree_log.specs.Urls.{urls_after};
 ghost use Rattle.tree_log.specs.Admits.{admits};
 
+use crate::admits::can_follow;
 use origin_core::{Flags, Origin, PageUrl};
 use std::alloc::AllocError;
 use tree_log::Entry;
@@ -31,6 +31,15 @@ pub trait View {
     /// The number of documents.
     fn docs(&self) -> u32
         ensures { result ≡ (tree self.now).docs };
+
+    /// The number of groups.
+    fn groups(&self) -> u32
+        ensures { result ≡ (tree self.now).groups };
+
+    /// The documents that were loaded, in the order of their numbers.
+    fn loads(&self) -> &[u32]
+        ensures value { result.now ≡ (tree self.now).loads }
+        ensures within { All (λ doc. doc < (tree self.now).docs) result.now };
 
     /// The active document of a navigable, also of one that was discarded.
     fn active(&self, nav: u32) -> u32
@@ -150,7 +159,7 @@ pub trait View {
     fn same_domain(&self, a: u32, b: u32) -> bool
         requires a { a < (tree self.now).docs }
         requires b { b < (tree self.now).docs }
-        ensures { result ≡ is_same_origin_domain (origin_of (tree self.now) a) (origin_of (tree self.now) b) };
+        ensures { result ≡ same_domain (tree self.now) a b };
 
     /// The URL of a document.
     fn url_of(&self, doc: u32) -> &PageUrl
@@ -158,13 +167,16 @@ pub trait View {
         ensures { result.now ≡ urls self.now doc };
 
     /// Whether an entry can follow: what it names is there, and what it makes has the next numbers.
-    fn admits(&self, entry: &Entry) -> bool
-        ensures { result ≡ admits (tree self.now) entry.now };
+    final fn admits(&self, entry: &Entry) -> bool
+        ensures { result ≡ admits (tree self.now) entry.now }
+    {
+        can_follow(self, entry)
+    }
 
     /// Applies one more entry. After an `Err` the view is as before.
     fn apply(&mut self, entry: &Entry) -> Result<(), AllocError>
         requires { IsTrue (admits (tree self.old) entry.now) }
-        ensures ok { OnOk result (tree self.new ≡ after (tree self.old) entry.now) }
+        ensures ok { OnOk result (tree self.new ≡ tree_after (tree self.old) entry.now) }
         ensures urls_ok { OnOk result (urls self.new ≡ urls_after (urls self.old) entry.now) }
         ensures err { OnErr result (tree self.new ≡ tree self.old) }
         ensures urls_err { OnErr result (urls self.new ≡ urls self.old) };

@@ -3,7 +3,7 @@ ghost use Rattle.std.specs.Prelude.{◌≡◌, None, OnOk, OnErr, IsTrue};
 ghost use Rattle.tree_log.specs.Admits.{admits};
 ghost use Rattle.tree_view.specs.NewRows as new;
 ghost use Rattle.tree_view.specs.Rows.{after_known};
-ghost use Rattle.tree_view.specs.Shown.{known, shown};
+ghost use Rattle.tree_view.specs.Shown.{known, tree_shown};
 
 use crate::plain::new::{load_row, new_rows};
 use crate::plain::rows::PlainView;
@@ -13,7 +13,7 @@ use tree_log::{Entry, What};
 impl PlainView {
     /// Applies one more entry. After an `Err` what is known is as before.
     pub(crate) fn apply_entry(&mut self, entry: &Entry) -> Result<(), AllocError>
-        requires { IsTrue (admits (shown self.old) entry.now) }
+        requires { IsTrue (admits (tree_shown self.old) entry.now) }
         ensures ok { OnOk result (known self.new ≡ after_known (known self.old) entry.now) }
         ensures err { OnErr result (known self.new ≡ known self.old) }
     {
@@ -28,7 +28,7 @@ impl PlainView {
 
     // An entry that makes no navigable.
     fn apply_change(&mut self, entry: &Entry) -> Result<(), AllocError>
-        requires admitted { IsTrue (admits (shown self.old) entry.now) }
+        requires admitted { IsTrue (admits (tree_shown self.old) entry.now) }
         requires change { new.new_rows entry.now ≡ None }
         ensures ok { OnOk result (known self.new ≡ after_known (known self.old) entry.now) }
         ensures err { OnErr result (known self.new ≡ known self.old) }

@@ -5,7 +5,7 @@ ghost use Rattle.tree_log.specs.NamedChildren.{first_of_name};
 ghost use Rattle.tree_log.specs.Tree as spec;
 ghost use Rattle.tree_log.specs.Tree.{children_of};
 ghost use Rattle.tree_view.specs.Rows.{is_kid};
-ghost use Rattle.tree_view.specs.Shown.{shown, if_same_origin};
+ghost use Rattle.tree_view.specs.Shown.{tree_shown, if_same_origin};
 
 use crate::plain::rows::{NavRow, PlainView};
 use origin_core::same_origin;
@@ -31,7 +31,7 @@ impl PlainView {
     #[tactic(auto, unfolding(tree_log::specs::Tree::is_active))]
     pub(crate) fn is_active_doc(&self, doc: u32) -> bool
         requires { doc < length self.now.docs.items }
-        ensures { result ≡ spec.is_active (shown self.now) doc }
+        ensures { result ≡ spec.is_active (tree_shown self.now) doc }
     {
         let nav = self.nav_of_doc(doc);
         self.active_doc(nav) == doc && !self.is_discarded(nav)
@@ -40,7 +40,7 @@ impl PlainView {
     #[tactic(auto, unfolding(tree_log::specs::Tree::children_of))]
     pub(crate) fn count_children(&self, doc: u32) -> u32
         requires { doc < length self.now.docs.items }
-        ensures { result ≡ length (children_of (shown self.now) doc) }
+        ensures { result ≡ length (children_of (tree_shown self.now) doc) }
     {
         if !self.is_active_doc(doc) {
             return 0;
@@ -57,7 +57,7 @@ impl PlainView {
     #[tactic(auto, unfolding(tree_log::specs::Tree::children_of))]
     pub(crate) fn find_child(&self, doc: u32, index: u32) -> Option<u32>
         requires { doc < length self.now.docs.items }
-        ensures value { result ≡ slice_get (children_of (shown self.now) doc) index }
+        ensures value { result ≡ slice_get (children_of (tree_shown self.now) doc) index }
         ensures within { IfSome result (λ child. child < length self.now.navs.items) }
     {
         if !self.is_active_doc(doc) {
@@ -78,7 +78,7 @@ impl PlainView {
     #[tactic(auto, unfolding(tree_log::specs::NamedChildren::child_named))]
     pub(crate) fn find_named(&self, doc: u32, name: &str) -> Option<u32>
         requires { doc < length self.now.docs.items }
-        ensures value { result ≡ named.child_named (shown self.now) doc name.now }
+        ensures value { result ≡ named.child_named (tree_shown self.now) doc name.now }
         ensures within { IfSome result (λ child. child < length self.now.navs.items) }
     {
         match self.first_named(doc, name) {
@@ -91,7 +91,7 @@ impl PlainView {
     #[tactic(auto, using(crate::proofs::Kids::named_step), unfolding(tree_log::specs::Tree::children_of))]
     fn first_named(&self, doc: u32, name: &str) -> Option<u32>
         requires { doc < length self.now.docs.items }
-        ensures value { result ≡ first_of_name (shown self.now) doc name.now }
+        ensures value { result ≡ first_of_name (tree_shown self.now) doc name.now }
         ensures within { IfSome result (λ child. child < length self.now.navs.items) }
     {
         if name.is_empty() || !self.is_active_doc(doc) {
@@ -109,7 +109,7 @@ impl PlainView {
     fn if_same_origin(&self, doc: u32, nav: u32) -> Option<u32>
         requires doc { doc < length self.now.docs.items }
         requires nav { nav < length self.now.navs.items }
-        ensures { result ≡ if_same_origin (shown self.now) doc nav }
+        ensures { result ≡ if_same_origin (tree_shown self.now) doc nav }
     {
         if same_origin(self.origin(doc), self.origin(self.active_doc(nav))) {
             Some(nav)

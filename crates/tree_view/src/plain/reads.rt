@@ -2,7 +2,7 @@
 ghost use Rattle.std.specs.Prelude.{◌≡◌, ◌<◌, ◌||◌, length, IfSome};
 ghost use Rattle.tree_log.specs.Tree as spec;
 ghost use Rattle.tree_log.specs.Tree.{origin_of};
-ghost use Rattle.tree_view.specs.Shown.{shown};
+ghost use Rattle.tree_view.specs.Shown.{tree_shown};
 
 use crate::plain::rows::PlainView;
 use origin_core::Origin;
@@ -10,7 +10,7 @@ use origin_core::Origin;
 impl PlainView {
     pub(crate) fn active_doc(&self, nav: u32) -> u32
         requires { nav < length self.now.navs.items }
-        ensures value { result ≡ ((shown self.now).nav nav).active }
+        ensures value { result ≡ ((tree_shown self.now).nav nav).active }
         ensures within { result < length self.now.docs.items }
     {
         self.navs[nav as usize].active
@@ -18,7 +18,7 @@ impl PlainView {
 
     pub(crate) fn embedder(&self, nav: u32) -> Option<u32>
         requires { nav < length self.now.navs.items }
-        ensures value { result ≡ spec.embedder (shown self.now) nav }
+        ensures value { result ≡ spec.embedder (tree_shown self.now) nav }
         ensures within { IfSome result (λ doc. doc < length self.now.docs.items) }
     {
         self.navs[nav as usize].made.embedder
@@ -27,7 +27,7 @@ impl PlainView {
     /// Whether a navigable was itself dropped or closed.
     pub(crate) fn was_ended(&self, nav: u32) -> bool
         requires { nav < length self.now.navs.items }
-        ensures { result ≡ (((shown self.now).nav nav).dropped || ((shown self.now).nav nav).gone) }
+        ensures { result ≡ (((tree_shown self.now).nav nav).dropped || ((tree_shown self.now).nav nav).gone) }
     {
         let row = &self.navs[nav as usize];
         row.dropped || row.gone
@@ -35,7 +35,7 @@ impl PlainView {
 
     pub(crate) fn nav_of_doc(&self, doc: u32) -> u32
         requires { doc < length self.now.docs.items }
-        ensures value { result ≡ spec.nav_of (shown self.now) doc }
+        ensures value { result ≡ spec.nav_of (tree_shown self.now) doc }
         ensures within { result < length self.now.navs.items }
     {
         self.docs[doc as usize].nav
@@ -43,7 +43,7 @@ impl PlainView {
 
     pub(crate) fn origin(&self, doc: u32) -> &Origin
         requires { doc < length self.now.docs.items }
-        ensures { result.now ≡ origin_of (shown self.now) doc }
+        ensures { result.now ≡ origin_of (tree_shown self.now) doc }
     {
         &self.docs[doc as usize].origin
     }

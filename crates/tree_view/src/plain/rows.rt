@@ -1,5 +1,6 @@
-ghost use Rattle.std.specs.Prelude.{◌<◌, All, length};
+ghost use Rattle.std.specs.Prelude.{◌≡◌, ◌<◌, All, length};
 ghost use Rattle.tree_view.specs.Closed.{NavClosed, DocClosed, ParentsFirst};
+ghost use Rattle.tree_view.specs.Rows.{numbers_of, is_loaded};
 
 use origin_core::{Flags, Origin, PageUrl};
 use plain_data::Text;
@@ -49,13 +50,14 @@ pub struct NewRows {
 
 /// The plain view: a row for each navigable and each document, in the order of their numbers.
 ///
-/// A read of one row takes one look. What depends on the navigables above takes a step for each of them, and the
+/// The documents that were loaded are listed beside the rows. A read of one row takes one look. What depends on the navigables above takes a step for each of them, and the
 /// children of a document are looked for among all navigables.
 #[derive(Drop)]
 pub struct PlainView {
     pub(crate) alloc: Global,
     pub(crate) navs: Vec<NavRow>,
     pub(crate) docs: Vec<DocRow>,
+    pub(crate) loads: Vec<u32>,
     pub(crate) groups: u32,
     pub(crate) len: u32,
     ghost few_navs: { length navs.items < 4294967296 },
@@ -63,4 +65,5 @@ pub struct PlainView {
     ghost navs_closed: { All (NavClosed (length navs.items) (length docs.items)) navs.items },
     ghost docs_closed: { All (DocClosed (length navs.items)) docs.items },
     ghost parents_first: { ParentsFirst navs.items docs.items },
+    ghost loads_listed: { loads.items ≡ numbers_of is_loaded 0 docs.items },
 }

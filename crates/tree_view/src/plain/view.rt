@@ -8,18 +8,19 @@ impl PlainView {
     ghost use Rattle.std.specs.Prelude.{◌≡◌, []};
     ghost use Rattle.tree_log.specs.Tree.{tree_of};
     ghost use Rattle.tree_log.specs.Urls.{url_of};
-    ghost use Rattle.tree_view.specs.Shown.{shown, shown_urls};
+    ghost use Rattle.tree_view.specs.Shown.{tree_shown, shown_urls};
 
     /// A view to which nothing was applied.
     #[tactic(auto, unfolding(tree_log::specs::Tree::tree_of, tree_log::specs::Urls::url_of))]
     pub fn new(alloc: Global) -> PlainView
-        ensures tree { shown result ≡ tree_of [] }
+        ensures tree { tree_shown result ≡ tree_of [] }
         ensures urls { shown_urls result ≡ url_of [] }
     {
         PlainView {
             alloc,
             navs: Vec::new(alloc),
             docs: Vec::new(alloc),
+            loads: Vec::new(alloc),
             groups: 0,
             len: 0,
         }
@@ -27,9 +28,9 @@ impl PlainView {
 }
 
 impl View for PlainView {
-    ghost use Rattle.tree_view.specs.Shown.{shown, shown_urls};
+    ghost use Rattle.tree_view.specs.Shown.{tree_shown, shown_urls};
 
-    ghost tree = { shown };
+    ghost tree = { tree_shown };
 
     ghost urls = { shown_urls };
 
@@ -43,6 +44,14 @@ impl View for PlainView {
 
     fn docs(&self) -> u32 {
         self.docs.len() as u32
+    }
+
+    fn groups(&self) -> u32 {
+        self.groups
+    }
+
+    fn loads(&self) -> &[u32] {
+        &self.loads
     }
 
     fn active(&self, nav: u32) -> u32 {
@@ -147,10 +156,6 @@ impl View for PlainView {
 
     fn url_of(&self, doc: u32) -> &PageUrl {
         &self.docs[doc as usize].url
-    }
-
-    fn admits(&self, entry: &Entry) -> bool {
-        self.can_follow(entry)
     }
 
     fn apply(&mut self, entry: &Entry) -> Result<(), AllocError> {

@@ -3,7 +3,7 @@ ghost use Rattle.std.specs.Option.{ForSome};
 ghost use Rattle.std.specs.Prelude.{◌≡◌, ◌<◌, ◌≤◌, ◌+◌, vec_capacity, ◌++◌, [], ◌∷◌, length, set, get_or, true, Some, OnOk, OnErr};
 ghost use Rattle.tree_view.specs.Closed.{FitsNew};
 ghost use Rattle.tree_view.specs.Rows as spec;
-ghost use Rattle.tree_view.specs.Rows.{no_nav, no_doc, new_docs};
+ghost use Rattle.tree_view.specs.Rows.{no_nav, no_doc, new_docs, new_loads};
 
 use crate::plain::rows::{DocRow, NewRows, PlainView};
 use origin_core::PageUrl;
@@ -83,6 +83,7 @@ impl PlainView {
         requires doc { doc ≡ length self.old.docs.items }
         requires few { length self.old.docs.items < 4294967295 }
         requires row { row.nav ≡ nav }
+        requires loaded { row.loaded ≡ true }
         requires room { self.old.len < 4294967295 }
         ensures navs { OnOk result (self.new.navs.items ≡ set self.old.navs.items nav (record (get_or self.old.navs.items nav no_nav) { last_load = Some doc })) }
         ensures docs { OnOk result (self.new.docs.items ≡ self.old.docs.items ++ row ∷ []) }
@@ -90,13 +91,16 @@ impl PlainView {
         ensures groups { self.new.groups ≡ self.old.groups }
         ensures err { OnErr result ((self.new.navs.items ≡ self.old.navs.items) × (self.new.docs.items ≡ self.old.docs.items) × (self.new.len ≡ self.old.len)) }
     {
-        self.push_doc(row)?;
+        self.push_loaded(doc, row)?;
         self.write_load(nav, doc);
         Ok(())
     }
 
-    fn push_doc(&mut self, row: DocRow) -> Result<(), AllocError>
+    #[tactic(auto, using(crate::proofs::Loads::loads_push))]
+    fn push_loaded(&mut self, doc: u32, row: DocRow) -> Result<(), AllocError>
         requires nav { row.nav < length self.old.navs.items }
+        requires doc { doc ≡ length self.old.docs.items }
+        requires loaded { row.loaded ≡ true }
         requires few { length self.old.docs.items < 4294967295 }
         ensures docs { OnOk result (self.new.docs.items ≡ self.old.docs.items ++ row ∷ []) }
         ensures err { OnErr result (self.new.docs.items ≡ self.old.docs.items) }
@@ -104,7 +108,9 @@ impl PlainView {
         ensures groups { self.new.groups ≡ self.old.groups }
         ensures len { self.new.len ≡ self.old.len }
     {
+        self.loads.reserve(1)?;
         self.docs.push(row)?;
+        self.loads.push_reserved(doc);
         Ok(())
     }
 
@@ -193,9 +199,10 @@ impl PlainView {
         ensures err { OnErr result ((self.new.navs.items ≡ self.old.navs.items) × (self.new.docs.items ≡ self.old.docs.items) × (self.new.groups ≡ self.old.groups) × (self.new.len ≡ self.old.len)) }
     {
         self.docs.reserve(2)?;
+        self.loads.reserve(1)?;
         let groups = grown(self.groups, new.row.made.group);
         self.navs.push(new.row)?;
-        push_reserved(&mut self.docs, new.initial, new.loaded);
+        push_reserved(&mut self.docs, &mut self.loads, new.initial, new.loaded);
         self.groups = groups;
         self.len += 1;
         Ok(())
@@ -203,12 +210,21 @@ impl PlainView {
 }
 
 // The documents that come with a new navigable.
-fn push_reserved(docs: &mut Vec<DocRow>, initial: DocRow, loaded: Option<DocRow>)
-    requires { length docs.old.items + 2 ≤ vec_capacity docs.old }
-    ensures { docs.new.items ≡ docs.old.items ++ new_docs initial loaded }
+fn push_reserved(
+    docs: &mut Vec<DocRow>,
+    loads: &mut Vec<u32>,
+    initial: DocRow,
+    loaded: Option<DocRow>,
+)
+    requires docs { length docs.old.items + 2 ≤ vec_capacity docs.old }
+    requires loads { length loads.old.items + 1 ≤ vec_capacity loads.old }
+    requires few { length docs.old.items + length (new_docs initial loaded) < 4294967296 }
+    ensures docs { docs.new.items ≡ docs.old.items ++ new_docs initial loaded }
+    ensures loads { loads.new.items ≡ loads.old.items ++ new_loads (length docs.old.items) loaded }
 {
     docs.push_reserved(initial);
     if let Some(loaded) = loaded {
+        loads.push_reserved(docs.len() as u32);
         docs.push_reserved(loaded);
     }
 }

@@ -1,0 +1,18 @@
+use Rattle.std.proofs.Common.{◌∙◌, true, refl}
+use Rattle.tree_view.specs.declared.plain.rows.DocRow.{DocRow}
+use Rattle.tree_view.proofs.Rewritten.{rewritten}
+use Rattle.tree_view.proofs.plain.rows.PlainView.write_been_active.Goals as goal
+
+pub invariant_of-self : goal.invariant_of-self
+invariant_of-self c =
+    let v = c.args.self.now in
+    let old : DocRow = c.index_mut.result.now in
+    let kept = rewritten v.navs.items v.docs.items c.args.doc (record old { been_active = true }) old v.few_docs v.navs_closed v.docs_closed v.parents_first c.requires.doc c.index_mut.ensures.value refl refl in
+    record {
+      few_navs = v.few_navs;
+      few_docs = kept.few_docs;
+      navs_closed = kept.closed.navs_closed;
+      docs_closed = kept.closed.docs_closed;
+      parents_first = kept.closed.parents_first;
+      loads_listed = v.loads_listed ∙ kept.loads;
+    }
