@@ -4,6 +4,7 @@ use mathlib.Core.Logic.{◌⊎◌}
 use Rattle.std.specs.Prelude.{◌&&◌, ◌||◌, ◌==◌, not, nat_lt, is_none, IsTrue, if◌then◌else◌}
 use Rattle.origin_core.specs.Origin.{page_origin}
 use Rattle.std.proofs.lemmas.Bool.Decides.{nat_tests}
+use Rattle.std.specs.Option.{option_or}
 use Rattle.tree_log.specs.declared.entry.Entry.{Entry}
 use Rattle.tree_log.specs.declared.entry.Load.{Load}
 use Rattle.tree_log.specs.declared.entry.What.{What}
@@ -11,14 +12,13 @@ use Rattle.tree_log.specs.declared.entry.Target.{Target}
 use Rattle.tree_log.specs.declared.entry.Cause.TheVariants as causes
 use Rattle.tree_log.specs.declared.entry.What.TheVariants.{Open, Frame, Drop, Begin, Commit, Post, Fire, Lapse, Closing, Gone, Sync}
 use Rattle.tree_log.specs.Log.{is}
-use Rattle.tree_log.specs.Facts.{or_else}
 use Rattle.tree_log.specs.Tree.{Tree, tree_of, nav_of, home_of, origin_of, is_discarded, is_active}
 use Rattle.tree_log.specs.Admits.{has, is_next, is_next_load, admits_what, admits, AreAdmitted}
 use Rattle.tree_log.proofs.Admitted.{both, StandsFor, StandsIfAny, TaskStands, AllStand, tasks_stand, few_of}
-use Rattle.single_agent.specs.declared.session.Session.{Session}
+use Rattle.agent_terms.specs.declared.session.Session.{Session}
 use Rattle.single_agent.specs.Session.{starts_of, started, start_entry}
-use Rattle.single_agent.specs.NextTask.{load_waits, load_task, is_for, delivery, task_of, first_task, next_task, is_over, task_entry}
-use Rattle.single_agent.specs.Decision.{Rules, rules_of, by, framed, frame_load, load_for, group_in}
+use Rattle.coordinator_rules.specs.NextTask.{load_waits, load_task, is_for, delivery, task_of, first_task, next_task, is_over, task_entry}
+use Rattle.coordinator_rules.specs.Decision.{Rules, rules_of, by, frame_entry, frame_load, load_for, group_in}
 
 lt_true : (a b : ℕ) → a < b → nat_lt a b ≡ true
 lt_true a b h = grind (arith, nat_tests)
@@ -77,7 +77,7 @@ task_of_admitted t over r place (Post to _ _ target _) what s h = message_admitt
 task_of_admitted t over r place (Closing nav) what s h = closing_admitted t r nav (home_of t (t.nav nav).active == r && not (is_discarded t nav)) what s h
 task_of_admitted t over r place _ what s h = absurd cc
 
-either_is : (a b : Option What) (what : What) → or_else a b ≡ Some what → (a ≡ Some what) ⊎ (b ≡ Some what)
+either_is : (a b : Option What) (what : What) → option_or a b ≡ Some what → (a ≡ Some what) ⊎ (b ≡ Some what)
 either_is (Some w) b what h = inl h
 either_is None b what h = inr h
 
@@ -166,7 +166,7 @@ module _ (log : List Entry) (r asker : ℕ) (few : length log < 2 ^ 30) (there :
     loaded true e = absurd cc
     loaded false e = let same : load_for rules (tree_of log) (group_in (tree_of log) (nav_of (tree_of log) asker)) flags ((tree_of log).docs + 1) asker url ≡ l = cc in ap (λ (x : Load). x.doc) (sym same)
 
-  pub frame_admitted : (rules : Rules) (name : List ℕ) (flags : ℕ) (url : Option (List ℕ)) → admits (tree_of log) (by r asker (framed rules (tree_of log) asker name flags url)) ≡ true
+  pub frame_admitted : (rules : Rules) (name : List ℕ) (flags : ℕ) (url : Option (List ℕ)) → admits (tree_of log) (by r asker (frame_entry rules (tree_of log) asker name flags url)) ≡ true
   unfolding admits
   frame_admitted rules name flags url =
       let few' = few_of log in

@@ -2,15 +2,16 @@
 use Rattle.std.proofs.Common.{◌≡◌, ℕ, ◌+◌, List, [], ◌∷◌, length, Option, Some, None, Bool, true, false, refl, inl, inr, sym, ap, subst, ◌∙◌, arith}
 use Rattle.std.specs.Option.{option_map}
 use Rattle.tree_log.specs.declared.entry.Entry.{Entry}
-use Rattle.single_agent.specs.declared.session.Session.{Session}
-use Rattle.single_agent.specs.declared.act.Act.{Act}
-use Rattle.single_agent.specs.declared.act.Act.TheVariants.{Step, Task}
-use Rattle.single_agent.specs.declared.act.Move.{Move}
-use Rattle.single_agent.specs.declared.act.Move.TheVariants.{Answers, Asks, Takes, Stays}
-use Rattle.single_agent.specs.NextTask.{next_task, task_entry}
-use Rattle.single_agent.specs.Decision.{Rules, rules_of, exchange}
-use Rattle.single_agent.specs.NextAct.{next_move, kind_of, answer_of, MovesTo, IsActOn}
-use Rattle.single_agent.specs.Turns.{Turned, log_of, record_of, told_of, loses_next, HasNothing, Plays, IsTurn, ArePlayed}
+use Rattle.agent_terms.specs.declared.session.Session.{Session}
+use Rattle.agent_terms.specs.declared.act.Act.{Act}
+use Rattle.agent_terms.specs.declared.act.Act.TheVariants.{Step, Task}
+use Rattle.agent_terms.specs.declared.act.Move.{Move}
+use Rattle.agent_terms.specs.declared.act.Move.TheVariants.{Answers, Asks, Takes, Stays}
+use Rattle.coordinator_rules.specs.NextTask.{next_task, task_entry}
+use Rattle.coordinator_rules.specs.Decision.{Rules, rules_of, exchange}
+use Rattle.single_agent.specs.NextMove.{next_move}
+use Rattle.single_agent.specs.NextAct.{kind_of, answer_of, MovesTo, IsActOn}
+use Rattle.single_agent.specs.Turns.{Turned, log_of, record_of, told_length, loses_next, HasNothing, Plays, IsTurn, ArePlayed}
 
 moves_same : (rules : Rules) (r : ℕ) (log : List Entry) (acts : List Act) (m : Move) (a b : Act) (x y : List Entry) → MovesTo rules r log acts m a x → MovesTo rules r log acts m b y → (a ≡ b) × (x ≡ y)
 moves_same rules r log acts (Answers doc point op answer) a b x y g h = (g.0 ∙ sym h.0, g.1 ∙ sym h.1)
@@ -53,9 +54,9 @@ pub turn_determined : (s : Session) (older : List Turned) (t u : Turned) → IsT
 turn_determined s older t u g h =
     let x : Some t.renderer ≡ Some u.renderer = sym g.due ∙ h.due in
     let same : t.renderer ≡ u.renderer = cc in
-    let plays : Plays (loses_next s older t.renderer) s t.renderer (log_of s older) (record_of t.renderer older) (told_of s t.renderer older) u.act u.own =
-    subst (λ k. Plays (loses_next s older k) s k (log_of s older) (record_of k older) (told_of s k older) u.act u.own) (sym same) h.plays in
-    let e = plays_same (loses_next s older t.renderer) s t.renderer (log_of s older) (record_of t.renderer older) (told_of s t.renderer older) t.act u.act t.own u.own g.plays plays in
+    let plays : Plays (loses_next s older t.renderer) s t.renderer (log_of s older) (record_of t.renderer older) (told_length s t.renderer older) u.act u.own =
+    subst (λ k. Plays (loses_next s older k) s k (log_of s older) (record_of k older) (told_length s k older) u.act u.own) (sym same) h.plays in
+    let e = plays_same (loses_next s older t.renderer) s t.renderer (log_of s older) (record_of t.renderer older) (told_length s t.renderer older) t.act u.act t.own u.own g.plays plays in
     λ i. record { renderer = same i; act = e.0 i; own = e.1 i }
 
 -- so two plays of as many turns are the same

@@ -7,16 +7,19 @@ use Rattle.tree_log.specs.Log.{prefix, entry_at}
 use Rattle.tree_log.specs.Tree.{tree_of}
 use Rattle.tree_log.specs.Urls.{url_of}
 use Rattle.tree_log.proofs.Places.{prefix_more}
-use Rattle.single_agent.specs.declared.session.Session.{Session}
-use Rattle.single_agent.specs.declared.act.Act.{Act}
-use Rattle.single_agent.specs.declared.act.Act.TheVariants.{Step, Task, LostTask}
+use Rattle.agent_terms.specs.declared.session.Session.{Session}
+use Rattle.agent_terms.specs.declared.act.Act.{Act}
+use Rattle.agent_terms.specs.declared.act.Act.TheVariants.{Step, Task, LostTask}
 use Rattle.window_props.specs.declared.value.Value.{Value}
 use Rattle.window_props.specs.declared.platform.Object.{Object}
 use Rattle.window_props.specs.History.{Store}
-use Rattle.single_agent.specs.Registers.{task_written}
-use Rattle.single_agent.specs.declared.act.Move.{Move}
-use Rattle.single_agent.specs.declared.act.Move.TheVariants.{Stays}
-use Rattle.single_agent.specs.NextAct.{length_of, newest_length, has_stopped, running, started_at, one_more, Left, left_on, step_left, registers_after, registers, stores_after, stores, sight_on, sight, move_of, next_move}
+use Rattle.object_access.specs.Registers.{task_written}
+use Rattle.agent_terms.specs.declared.act.Move.{Move}
+use Rattle.agent_terms.specs.declared.act.Move.TheVariants.{Stays}
+use Rattle.single_agent.specs.Lengths.{length_of, newest_length, has_stopped}
+use Rattle.single_agent.specs.Running.{running, started_at, one_more, Left, left_on, step_left}
+use Rattle.single_agent.specs.Sights.{registers_after, registers, stores_after, stores, sight_on, sight}
+use Rattle.single_agent.specs.NextMove.{move_of, next_move}
 
 -- no act had heard of more than n entries
 abbrev pub Within : ℕ → List Act → Type 0

@@ -3,13 +3,16 @@ use Rattle.std.proofs.Common.{◌≡◌, ℕ, ◌+◌, ◌≤◌, List, [], ◌�
 use Rattle.std.specs.Prelude.{◌&&◌, not, if◌then◌else◌}
 use Rattle.std.proofs.lemmas.Bool.Decides.{eqb_tells}
 use Rattle.tree_log.specs.declared.entry.Entry.{Entry}
-use Rattle.single_agent.specs.declared.session.Session.{Session}
-use Rattle.single_agent.specs.declared.act.Act.{Act}
-use Rattle.single_agent.specs.declared.act.Move.{Move}
-use Rattle.single_agent.specs.declared.act.Move.TheVariants.{Answers, Asks, Takes, Stays}
-use Rattle.single_agent.specs.Decision.{Rules, rules_of, exchange}
-use Rattle.single_agent.specs.NextAct.{length_of, newest_length, next_move, answer_of, lost_act, MovesTo}
-use Rattle.single_agent.specs.Turns.{Turned, log_of, with_act, record_of, is_exchange, loses_next, told_of, Plays, ArePlayed}
+use Rattle.agent_terms.specs.declared.session.Session.{Session}
+use Rattle.agent_terms.specs.declared.act.Act.{Act}
+use Rattle.agent_terms.specs.declared.act.Move.{Move}
+use Rattle.agent_terms.specs.declared.act.Move.TheVariants.{Answers, Asks, Takes, Stays}
+use Rattle.coordinator_rules.specs.Decision.{Rules, rules_of, exchange}
+use Rattle.single_agent.specs.Lengths.{length_of, newest_length}
+use Rattle.single_agent.specs.NextMove.{next_move}
+use Rattle.single_agent.specs.NextAct.{answer_of, MovesTo}
+use Rattle.single_agent.specs.LostAct.{lost_act}
+use Rattle.single_agent.specs.Turns.{Turned, log_of, with_act, record_of, is_exchange, loses_next, told_length, Plays, ArePlayed}
 use Rattle.single_agent.proofs.Legal.{acted_length, lost_length}
 
 -- how much was heard, between what acts heard and what there is
@@ -67,14 +70,14 @@ own_between false s r log acts told (Some act) own h b =
     and_true false = refl
 
 -- what renderer r was told lies between the length of its newest act and that of the log
-pub told_between : (s : Session) (r : ℕ) (turns : List Turned) → ArePlayed s turns → IsBetween (newest_length (record_of r turns)) (told_of s r turns) (length (log_of s turns))
-unfolding log_of record_of told_of
+pub told_between : (s : Session) (r : ℕ) (turns : List Turned) → ArePlayed s turns → IsBetween (newest_length (record_of r turns)) (told_length s r turns) (length (log_of s turns))
+unfolding log_of record_of told_length
 told_between s r [] h = record { low_is = omega arith; high_is = omega arith }
 told_between s r (t ∷ older) h = let whole = length-append t.own (log_of s older) in elim (eqb_tells t.renderer r) [
   | inl p ↦ rw p.0 (let b = told_between s r older h.1 in
       let mine = subst (λ k. IsBetween (newest_length (with_act t.act (record_of k older)))
-      (if is_exchange (next_move s (log_of s older) (record_of k older)) && not (loses_next s older k) then length t.own + length (log_of s older) else told_of s k older) (length t.own + length (log_of s older))) p.1
-      (own_between (loses_next s older t.renderer) s t.renderer (log_of s older) (record_of t.renderer older) (told_of s t.renderer older) t.act t.own h.0.plays (subst (λ k. IsBetween (newest_length (record_of k older)) (told_of s k older) (length (log_of s older))) (sym p.1) b)) in
-      subst (λ n. IsBetween (newest_length (with_act t.act (record_of r older))) (if is_exchange (next_move s (log_of s older) (record_of r older)) && not (loses_next s older r) then n else told_of s r older) n) (sym whole) mine)
+      (if is_exchange (next_move s (log_of s older) (record_of k older)) && not (loses_next s older k) then length t.own + length (log_of s older) else told_length s k older) (length t.own + length (log_of s older))) p.1
+      (own_between (loses_next s older t.renderer) s t.renderer (log_of s older) (record_of t.renderer older) (told_length s t.renderer older) t.act t.own h.0.plays (subst (λ k. IsBetween (newest_length (record_of k older)) (told_length s k older) (length (log_of s older))) (sym p.1) b)) in
+      subst (λ n. IsBetween (newest_length (with_act t.act (record_of r older))) (if is_exchange (next_move s (log_of s older) (record_of r older)) && not (loses_next s older r) then n else told_length s r older) n) (sym whole) mine)
   | inr p ↦ rw p.0 (let b = told_between s r older h.1 in record { low_is = b.low_is; high_is = omega (arith, b.high_is) })
 ]

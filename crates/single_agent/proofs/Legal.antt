@@ -7,26 +7,29 @@ use Rattle.std.proofs.lemmas.List.Elements.{filter-append}
 use Rattle.tree_log.specs.declared.entry.Entry.{Entry}
 use Rattle.tree_log.specs.Log.{prefix, is_by}
 use Rattle.tree_log.proofs.Places.{prefix_more, prefix_whole}
-use Rattle.single_agent.specs.declared.session.Session.{Session}
-use Rattle.single_agent.specs.declared.act.Act.{Act}
-use Rattle.single_agent.specs.declared.act.Act.TheVariants.{Step, LostTask}
-use Rattle.single_agent.specs.declared.act.Answer.{Answer}
-use Rattle.single_agent.specs.declared.act.Answer.TheVariants as answer
-use Rattle.single_agent.specs.declared.act.Point.{Point}
-use Rattle.single_agent.specs.declared.act.Move.{Move}
-use Rattle.single_agent.specs.declared.act.Move.TheVariants.{Answers, Asks, Takes, Stays}
-use Rattle.single_agent.specs.declared.step.OpName.{OpName}
-use Rattle.single_agent.specs.declared.step.OpName.TheVariants as op
-use Rattle.single_agent.specs.declared.request.ReplyOutcome.{ReplyOutcome}
-use Rattle.single_agent.specs.declared.request.ReplyOutcome.TheVariants as replies
-use Rattle.single_agent.specs.declared.outcome.Outcome.TheVariants as outcome
+use Rattle.agent_terms.specs.declared.session.Session.{Session}
+use Rattle.agent_terms.specs.declared.act.Act.{Act}
+use Rattle.agent_terms.specs.declared.act.Act.TheVariants.{Step, LostTask}
+use Rattle.agent_terms.specs.declared.act.Answer.{Answer}
+use Rattle.agent_terms.specs.declared.act.Answer.TheVariants as answer
+use Rattle.agent_terms.specs.declared.act.Point.{Point}
+use Rattle.agent_terms.specs.declared.act.Move.{Move}
+use Rattle.agent_terms.specs.declared.act.Move.TheVariants.{Answers, Asks, Takes, Stays}
+use Rattle.agent_terms.specs.declared.step.OpName.{OpName}
+use Rattle.agent_terms.specs.declared.step.OpName.TheVariants as op
+use Rattle.agent_terms.specs.declared.request.ReplyOutcome.{ReplyOutcome}
+use Rattle.agent_terms.specs.declared.request.ReplyOutcome.TheVariants as replies
+use Rattle.agent_terms.specs.declared.outcome.Outcome.TheVariants as outcome
 use Rattle.window_props.specs.declared.value.Value.TheVariants as value
-use Rattle.single_agent.specs.Values.{null}
-use Rattle.single_agent.specs.NextAct.{length_of, newest_length, is_lost, has_stopped, next_move, request_of, rule_of, done_of, answer_of, MovesTo, IsActOn, lost_act, exchanged, IsLostOn}
+use Rattle.object_access.specs.Values.{null}
+use Rattle.single_agent.specs.Lengths.{length_of, newest_length, is_lost, has_stopped}
+use Rattle.single_agent.specs.NextMove.{next_move, move_request}
+use Rattle.single_agent.specs.NextAct.{rule_of, done_of, answer_of, MovesTo, IsActOn}
+use Rattle.single_agent.specs.LostAct.{lost_act, exchanged, IsLostOn}
 use Rattle.tree_log.specs.declared.entry.What.{What}
-use Rattle.single_agent.specs.declared.request.Request.{Request}
-use Rattle.single_agent.specs.declared.request.Request.TheVariants.{Next}
-use Rattle.single_agent.specs.Decision.{Rules, rules_of, Decision, task_decision, exchange}
+use Rattle.agent_terms.specs.declared.request.Request.{Request}
+use Rattle.agent_terms.specs.declared.request.Request.TheVariants.{Next}
+use Rattle.coordinator_rules.specs.Decision.{Rules, rules_of, Decision, task_decision, exchange}
 use Rattle.single_agent.specs.LegalLog.{IsLegalLog, Exchanged, Gave_up, lost_entry}
 use Rattle.single_agent.proofs.Made.{AreBy, exchange_by, next_gives}
 use Rattle.single_agent.specs.LegalRecord.{StandsIn, LegalActs, is_loss, about, and_lost, IsLegalRecord}
@@ -241,7 +244,7 @@ record_lost s r log older act own legal h =
         refl,
       ),
       about_append r (lost_entry r ∷ []) (own ++ log) ∙ ap (λ (l : List Entry). l ++ about r (own ++ log)) (loss_alone r)
-          ∙ ap (λ (l : List Entry). lost_entry r ∷ l) (about_append r own log ∙ ap (λ (l : List Entry). l ++ about r log) (all_about r own (lost_is (rules_of s) log r (request_of (next_move s log older)) own h.served))
+          ∙ ap (λ (l : List Entry). lost_entry r ∷ l) (about_append r own log ∙ ap (λ (l : List Entry). l ++ about r log) (all_about r own (lost_is (rules_of s) log r (move_request (next_move s log older)) own h.served))
           ∙ ap (λ (l : List Entry). own ++ l) before)
           ∙ ap (λ (b : Bool). if b then lost_entry r ∷ own ++ legal.0 else own ++ legal.0) (sym (lost_lost (newest_length older) h.heard (next_move s log older) act h.lost)),
     )

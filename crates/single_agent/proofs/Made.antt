@@ -4,16 +4,15 @@ use Rattle.std.specs.Prelude.{◌==◌, ◌||◌, if◌then◌else◌}
 use Rattle.tree_log.specs.declared.entry.Entry.{Entry}
 use Rattle.tree_log.specs.declared.entry.What.{What}
 use Rattle.tree_log.specs.declared.entry.What.TheVariants.{Opener, Sync}
-use Rattle.tree_log.specs.Tree.{Tree, tree_of, is, nav_of, origin_of, is_active}
+use Rattle.tree_log.specs.Tree.{Tree, tree_of, is, nav_of, origin_of, is_active, same_domain}
 use Rattle.tree_log.specs.Urls.{url_of}
-use Rattle.origin_core.specs.Origin.{is_same_origin_domain}
-use Rattle.single_agent.specs.declared.request.Request.{Request}
-use Rattle.single_agent.specs.declared.request.Request.TheVariants as ask
-use Rattle.single_agent.specs.declared.request.ReplyOutcome.{ReplyOutcome}
-use Rattle.single_agent.specs.declared.request.ReplyOutcome.TheVariants.{Done, Security, Unloaded, NotYours}
-use Rattle.single_agent.specs.NextTask.{next_task}
-use Rattle.single_agent.specs.Navigation.{may_navigate, Choice, Existing, New, Nothing, choice}
-use Rattle.single_agent.specs.Decision.{Rules, Decision, by, one, navigation, opener_entry, or_sync, made_or_null, open_chosen, is_live, decide, is_fragment, asker_of, end_of, home_if_active, asked, task_decision, exchange}
+use Rattle.agent_terms.specs.declared.request.Request.{Request}
+use Rattle.agent_terms.specs.declared.request.Request.TheVariants as ask
+use Rattle.agent_terms.specs.declared.request.ReplyOutcome.{ReplyOutcome}
+use Rattle.agent_terms.specs.declared.request.ReplyOutcome.TheVariants.{Done, Security, Unloaded, NotYours}
+use Rattle.coordinator_rules.specs.NextTask.{next_task}
+use Rattle.coordinator_rules.specs.Navigation.{may_navigate, Choice, Existing, New, Nothing, choice}
+use Rattle.coordinator_rules.specs.Decision.{Rules, Decision, by, one, navigation, opener_entry, or_sync, made_or_null, open_chosen, is_live, decide, is_fragment, asker_of, end_of, home_if_active, asked_decision, task_decision, exchange}
 
 -- each entry is renderer r's
 abbrev pub AreBy : ℕ → List Entry → Type 0
@@ -58,21 +57,21 @@ unfolding decide IsBy
 decide_by rules t f r ask.Next = tt
 decide_by rules t f r (ask.Open asker url name noopener user) = chosen_by rules t f r asker url name noopener user (choice t (nav_of t asker) name noopener user)
 decide_by rules t f r (ask.Go asker doc url user) = twice_by r asker (is_live t asker doc) (may_navigate t (nav_of t asker) (nav_of t doc) user) (navigation rules t f asker (nav_of t doc) url) Done (Security 7) Done
-decide_by rules t f r (ask.Name asker doc name) = twice_by r asker (is_live t asker doc) (is_same_origin_domain (origin_of t asker) (origin_of t doc)) _ Done (Security 8) Done
-decide_by rules t f r (ask.Disown asker doc) = twice_by r asker (is_live t asker doc) (is_same_origin_domain (origin_of t asker) (origin_of t doc)) _ Done (Security 8) Done
+decide_by rules t f r (ask.Name asker doc name) = twice_by r asker (is_live t asker doc) (same_domain t asker doc) _ Done (Security 8) Done
+decide_by rules t f r (ask.Disown asker doc) = twice_by r asker (is_live t asker doc) (same_domain t asker doc) _ Done (Security 8) Done
 decide_by rules t f r q = (refl, tt)
 
-asked_by : (rules : Rules) (log : List Entry) (r : ℕ) (q : Request) → IsBy r (asked rules log r q)
-unfolding asked IsBy
+asked_by : (rules : Rules) (log : List Entry) (r : ℕ) (q : Request) → IsBy r (asked_decision rules log r q)
+unfolding asked_decision IsBy
 asked_by rules log r q =
     if_by r (is_active (tree_of log) (asker_of q)) (decide rules (tree_of log) (is_fragment (tree_of log) (url_of log) q) r q) (record { entries = []; outcome = Unloaded (end_of log (asker_of q)) })
     (decide_by rules (tree_of log) (is_fragment (tree_of log) (url_of log) q) r q) tt
 
 yours_by : (rules : Rules) (log : List Entry) (r : ℕ) (q : Request) →
-    IsBy r (if is (home_if_active (tree_of log) (asker_of q)) r then asked rules log r q else record { entries = []; outcome = NotYours (asker_of q) (home_if_active (tree_of log) (asker_of q)) })
+    IsBy r (if is (home_if_active (tree_of log) (asker_of q)) r then asked_decision rules log r q else record { entries = []; outcome = NotYours (asker_of q) (home_if_active (tree_of log) (asker_of q)) })
 unfolding IsBy
 yours_by rules log r q =
-    if_by r (is (home_if_active (tree_of log) (asker_of q)) r) (asked rules log r q) (record { entries = []; outcome = NotYours (asker_of q) (home_if_active (tree_of log) (asker_of q)) })
+    if_by r (is (home_if_active (tree_of log) (asker_of q)) r) (asked_decision rules log r q) (record { entries = []; outcome = NotYours (asker_of q) (home_if_active (tree_of log) (asker_of q)) })
     (asked_by rules log r q) tt
 
 task_by : (r place : ℕ) (what : Option What) → IsBy r (task_decision r place what)

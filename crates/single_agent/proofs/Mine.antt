@@ -2,6 +2,7 @@
 use Rattle.std.proofs.Common.{◌≡◌, ℕ, ◌<◌, ◌≤◌, List, [], ◌∷◌, ◌++◌, length, Option, Some, None, Bool, true, false, refl, sym, ap, subst, ◌∙◌, arith, inl, inr, eq-eqb}
 use mathlib.Core.Logic.{◌⊎◌}
 use Rattle.std.specs.Prelude.{◌&&◌, ◌||◌, ◌==◌, not, nat_le, if◌then◌else◌}
+use Rattle.std.specs.Option.{option_or}
 use Rattle.tree_log.specs.declared.entry.Entry.{Entry}
 use Rattle.tree_log.specs.declared.entry.Load.{Load}
 use Rattle.tree_log.specs.declared.entry.What.{What}
@@ -9,14 +10,14 @@ use Rattle.tree_log.specs.declared.entry.What.TheVariants.{Open, Frame, Begin, C
 use Rattle.tree_log.specs.declared.entry.Target.{Target}
 use Rattle.tree_log.specs.declared.entry.Cause.TheVariants as causes
 use Rattle.tree_log.specs.Log.{prefix}
-use Rattle.tree_log.specs.Facts.{shows, or_else, Birth}
-use Rattle.tree_log.specs.Tree.{Tree, tree_of, after, tree_of_step, is, home_of, origin_of, is_discarded, is_active}
+use Rattle.tree_log.specs.Facts.{shows, Birth}
+use Rattle.tree_log.specs.Tree.{Tree, tree_of, tree_after, tree_of_step, is, home_of, origin_of, is_discarded, is_active}
 use Rattle.tree_log.specs.Admits.{admits, AreAdmitted}
 use Rattle.tree_log.proofs.Admitted.{both, eq_of, docs_grow, docs_at_step, born_stays, StandsFor, StandsIfAny, TaskStands, AllStand, tasks_stand}
-use Rattle.single_agent.specs.declared.request.Request.{Request}
-use Rattle.single_agent.specs.declared.request.Request.TheVariants as ask
-use Rattle.single_agent.specs.NextTask.{load_waits, load_task, is_for, delivery, task_of, first_task, next_task, is_over, task_entry}
-use Rattle.single_agent.specs.Decision.{Rules, asker_of, home_if_active, asked, exchange}
+use Rattle.agent_terms.specs.declared.request.Request.{Request}
+use Rattle.agent_terms.specs.declared.request.Request.TheVariants as ask
+use Rattle.coordinator_rules.specs.NextTask.{load_waits, load_task, is_for, delivery, task_of, first_task, next_task, is_over, task_entry}
+use Rattle.coordinator_rules.specs.Decision.{Rules, asker_of, home_if_active, asked_decision, exchange}
 
 -- the document is there, has been active, and is homed at renderer r
 pub record IsMine (r : ℕ) (t : Tree) (d : ℕ) : Type 0 where
@@ -28,14 +29,14 @@ or_right : (a b : Bool) → b ≡ true → (a || b) ≡ true
 or_right true b h = refl
 or_right false b h = h
 
-been_later : (t : Tree) (e : Entry) (d : ℕ) → (t.doc d).been_active ≡ true → ((after t e).doc d).been_active ≡ true
-unfolding after
+been_later : (t : Tree) (e : Entry) (d : ℕ) → (t.doc d).been_active ≡ true → ((tree_after t e).doc d).been_active ≡ true
+unfolding tree_after
 been_later t e d h = or_right (shows d e.what) (t.doc d).been_active h
 
 -- it stays so
-pub mine_later : (r : ℕ) (t : Tree) (e : Entry) (d : ℕ) → admits t e ≡ true → IsMine r t d → IsMine r (after t e) d
+pub mine_later : (r : ℕ) (t : Tree) (e : Entry) (d : ℕ) → admits t e ≡ true → IsMine r t d → IsMine r (tree_after t e) d
 mine_later r t e d h m =
-    let more : t.docs ≤ (after t e).docs = subst (λ n. t.docs ≤ n) (sym (docs_at_step t e)) (docs_grow e.what t.docs) in
+    let more : t.docs ≤ (tree_after t e).docs = subst (λ n. t.docs ≤ n) (sym (docs_at_step t e)) (docs_grow e.what t.docs) in
     record {
       there = omega (arith, m.there);
       been = been_later t e d m.been;
@@ -105,7 +106,7 @@ task_of_homed t over r place (Post to _ _ target _) what s h = message_homed t r
 task_of_homed t over r place (Closing nav) what s h = closing_homed t r nav (home_of t (t.nav nav).active == r && not (is_discarded t nav)) what h
 task_of_homed t over r place _ what s h = absurd cc
 
-either_is : (a b : Option What) (what : What) → or_else a b ≡ Some what → (a ≡ Some what) ⊎ (b ≡ Some what)
+either_is : (a b : Option What) (what : What) → option_or a b ≡ Some what → (a ≡ Some what) ⊎ (b ≡ Some what)
 either_is (Some w) b what h = inl h
 either_is None b what h = inr h
 
@@ -117,11 +118,11 @@ first_homed t over r (e ∷ older) what s h =
       | inr p ↦ task_of_homed t over r (length older) e.what what s.0 p
     ]
 
-committed_mine : (r : ℕ) (t : Tree) (nav doc begin : ℕ) → doc < t.docs → home_of t doc ≡ r → IsMine r (after t (task_entry r (Commit nav doc begin))) doc
-unfolding after
+committed_mine : (r : ℕ) (t : Tree) (nav doc begin : ℕ) → doc < t.docs → home_of t doc ≡ r → IsMine r (tree_after t (task_entry r (Commit nav doc begin))) doc
+unfolding tree_after
 committed_mine r t nav doc begin there home = record { there = there; been = rw (eq-eqb doc doc refl) refl; home = home }
 
-homed_mine : (r : ℕ) (t : Tree) (nav doc begin : ℕ) → IsHomedTask t r (Commit nav doc begin) → IsMine r (after t (task_entry r (Commit nav doc begin))) doc
+homed_mine : (r : ℕ) (t : Tree) (nav doc begin : ℕ) → IsHomedTask t r (Commit nav doc begin) → IsMine r (tree_after t (task_entry r (Commit nav doc begin))) doc
 unfolding IsHomedTask
 homed_mine r t nav doc begin h = committed_mine r t nav doc begin h.0 h.1
 
@@ -146,7 +147,7 @@ if_true true x y h = refl
 if_true false x y h = absurd cc
 
 -- what is asked for such a document is decided
-pub exchange_asked : (rules : Rules) (log : List Entry) (r : ℕ) (q : Request) → IsNoTask q → is (home_if_active (tree_of log) (asker_of q)) r ≡ true → exchange rules log r q ≡ asked rules log r q
+pub exchange_asked : (rules : Rules) (log : List Entry) (r : ℕ) (q : Request) → IsNoTask q → is (home_if_active (tree_of log) (asker_of q)) r ≡ true → exchange rules log r q ≡ asked_decision rules log r q
 unfolding exchange
 exchange_asked rules log r ask.Next n h = absurd n
-exchange_asked rules log r q n h = if_true (is (home_if_active (tree_of log) (asker_of q)) r) (asked rules log r q) _ h
+exchange_asked rules log r q n h = if_true (is (home_if_active (tree_of log) (asker_of q)) r) (asked_decision rules log r q) _ h

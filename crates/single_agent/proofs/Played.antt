@@ -5,16 +5,18 @@ use Rattle.std.proofs.lemmas.Bool.Decides.{eqb_tells}
 use Rattle.tree_log.specs.declared.entry.Entry.{Entry}
 use Rattle.tree_log.specs.Tree.{tree_of}
 use Rattle.tree_log.proofs.Admitted.{both}
-use Rattle.single_agent.specs.declared.session.Session.{Session}
-use Rattle.single_agent.specs.declared.act.Act.{Act}
-use Rattle.single_agent.specs.declared.act.Move.{Move}
-use Rattle.single_agent.specs.declared.act.Move.TheVariants.{Answers, Asks, Takes, Stays}
-use Rattle.single_agent.specs.Decision.{Rules, rules_of}
+use Rattle.agent_terms.specs.declared.session.Session.{Session}
+use Rattle.agent_terms.specs.declared.act.Act.{Act}
+use Rattle.agent_terms.specs.declared.act.Move.{Move}
+use Rattle.agent_terms.specs.declared.act.Move.TheVariants.{Answers, Asks, Takes, Stays}
+use Rattle.coordinator_rules.specs.Decision.{Rules, rules_of}
 use Rattle.single_agent.specs.Session.{starts_of, started, start_entry, lose_of}
-use Rattle.single_agent.specs.NextAct.{newest_length, next_move, request_of, lost_act, exchanged}
+use Rattle.single_agent.specs.Lengths.{newest_length}
+use Rattle.single_agent.specs.NextMove.{next_move, move_request}
+use Rattle.single_agent.specs.LostAct.{lost_act, exchanged}
 use Rattle.single_agent.specs.LegalLog.{IsLegalLog, Started}
 use Rattle.single_agent.specs.LegalRecord.{about, IsLegalRecord}
-use Rattle.single_agent.specs.Turns.{Turned, log_of, with_act, record_of, told_of, is_exchange, is_full, calls_of, counts, is_named, is_losing, is_served, loses_next, Plays, ArePlayed}
+use Rattle.single_agent.specs.Turns.{Turned, log_of, with_act, record_of, told_length, is_exchange, is_full, calls_of, counts, is_named, is_losing, is_served, loses_next, Plays, ArePlayed}
 use Rattle.single_agent.proofs.Legal.{log_acted, log_lost, record_acted, record_lost, record_other, record_other_lost}
 use Rattle.single_agent.proofs.Heard.{IsBetween, told_between}
 
@@ -29,7 +31,7 @@ starts_alone s q = started_alone q (rules_of s) [] s.start refl
 
 log_played : (lost : Bool) (s : Session) (r : ℕ) (log : List Entry) (acts : List Act) (told : ℕ) (act : Option Act) (own : List Entry) → r < s.renderers → IsLegalLog s log → Plays lost s r log acts told act own → IsLegalLog s (own ++ log)
 log_played true s r log acts told act own there legal h =
-    subst (λ (o : List Entry). IsLegalLog s (o ++ log)) (sym h.1) (log_lost s r log (request_of (next_move s log acts)) (is_served (lose_of s r) && not (is_full log)) there legal)
+    subst (λ (o : List Entry). IsLegalLog s (o ++ log)) (sym h.1) (log_lost s r log (move_request (next_move s log acts)) (is_served (lose_of s r) && not (is_full log)) there legal)
 log_played false s r log acts told None own there legal h = subst (λ (o : List Entry). IsLegalLog s (o ++ log)) (sym h.1) legal
 log_played false s r log acts told (Some act) own there legal h = log_acted s r log acts (next_move s log acts) act own there legal h.0
 
@@ -46,7 +48,7 @@ no_lost_act newest told Takes e h = absurd cc
 no_lost_act newest told Stays e h = absurd cc
 
 served_or_not : (rules : Rules) (log : List Entry) (r : ℕ) (m : Move) (b : Bool)
-    → ((if b then exchanged rules log r (request_of m) else []) ≡ []) ⊎ ((if b then exchanged rules log r (request_of m) else []) ≡ exchanged rules log r (request_of m))
+    → ((if b then exchanged rules log r (move_request m) else []) ≡ []) ⊎ ((if b then exchanged rules log r (move_request m) else []) ≡ exchanged rules log r (move_request m))
 served_or_not rules log r m true = inr refl
 served_or_not rules log r m false = inl refl
 
@@ -55,7 +57,7 @@ own_lost : (s : Session) (r : ℕ) (log : List Entry) (acts : List Act) (told : 
 own_lost s r log acts told None own losing b legal h = absurd (no_lost_act (newest_length acts) told (next_move s log acts) (lost_exchanges s r log acts losing) h.0)
 own_lost s r log acts told (Some act) own losing b legal h =
     subst (λ (o : List Entry). IsLegalRecord s r (o ++ log) (act ∷ acts)) (sym h.1)
-    (record_lost s r log acts act (if is_served (lose_of s r) && not (is_full log) then exchanged (rules_of s) log r (request_of (next_move s log acts)) else []) legal
+    (record_lost s r log acts act (if is_served (lose_of s r) && not (is_full log) then exchanged (rules_of s) log r (move_request (next_move s log acts)) else []) legal
     (record { heard = told; later = b.low_is; within = b.high_is; lost = sym h.0; served = served_or_not (rules_of s) log r (next_move s log acts) (is_served (lose_of s r) && not (is_full log)) }))
 
 own_played : (lost : Bool) (s : Session) (r : ℕ) (log : List Entry) (acts : List Act) (told : ℕ) (act : Option Act) (own : List Entry) → is_losing s r log acts ≡ lost → IsBetween (newest_length acts) told (length log)
@@ -67,14 +69,14 @@ own_played false s r log acts told (Some act) own losing b legal h = record_acte
 other_played : (lost : Bool) (s : Session) (q r : ℕ) (log : List Entry) (mine acts : List Act) (told : ℕ) (act : Option Act) (own : List Entry) → IsLegalRecord s q log mine → Plays lost s r log acts told act own → q ≢ r
     → IsLegalRecord s q (own ++ log) mine
 other_played true s q r log mine acts told act own legal h other =
-    subst (λ (o : List Entry). IsLegalRecord s q (o ++ log) mine) (sym h.1) (record_other_lost s q r log mine (request_of (next_move s log acts)) (is_served (lose_of s r) && not (is_full log)) legal other)
+    subst (λ (o : List Entry). IsLegalRecord s q (o ++ log) mine) (sym h.1) (record_other_lost s q r log mine (move_request (next_move s log acts)) (is_served (lose_of s r) && not (is_full log)) legal other)
 other_played false s q r log mine acts told None own legal h other = subst (λ (o : List Entry). IsLegalRecord s q (o ++ log) mine) (sym h.1) legal
 other_played false s q r log mine acts told (Some act) own legal h other = record_other s q r log mine acts act own legal h.0 other
 
 pub legal_log : (s : Session) (turns : List Turned) → ArePlayed s turns → IsLegalLog s (log_of s turns)
 unfolding log_of
 legal_log s [] h = Started
-legal_log s (t ∷ older) h = log_played (loses_next s older t.renderer) s t.renderer (log_of s older) (record_of t.renderer older) (told_of s t.renderer older) t.act t.own h.0.there (legal_log s older h.1) h.0.plays
+legal_log s (t ∷ older) h = log_played (loses_next s older t.renderer) s t.renderer (log_of s older) (record_of t.renderer older) (told_length s t.renderer older) t.act t.own h.0.there (legal_log s older h.1) h.0.plays
 
 pub record_own : (t : Turned) (older : List Turned) → record_of t.renderer (t ∷ older) ≡ with_act t.act (record_of t.renderer older)
 unfolding record_of
@@ -94,7 +96,7 @@ legal_record s q [] h = no_record s q
 legal_record s q (t ∷ older) h =
     elim (eqb_tells t.renderer q) [
       | inl p ↦ subst (λ k. IsLegalRecord s k (t.own ++ log_of s older) (record_of k (t ∷ older))) p.1 (subst (IsLegalRecord s t.renderer (t.own ++ log_of s older)) (sym (record_own t older))
-          (own_played (loses_next s older t.renderer) s t.renderer (log_of s older) (record_of t.renderer older) (told_of s t.renderer older) t.act t.own refl (told_between s t.renderer older h.1) (legal_record s t.renderer older h.1) h.0.plays))
+          (own_played (loses_next s older t.renderer) s t.renderer (log_of s older) (record_of t.renderer older) (told_length s t.renderer older) t.act t.own refl (told_between s t.renderer older h.1) (legal_record s t.renderer older h.1) h.0.plays))
       | inr p ↦ subst (IsLegalRecord s q (t.own ++ log_of s older)) (sym (record_not q t older p.1))
-          (other_played (loses_next s older t.renderer) s q t.renderer (log_of s older) (record_of q older) (record_of t.renderer older) (told_of s t.renderer older) t.act t.own (legal_record s q older h.1) h.0.plays (λ e. p.1 (sym e)))
+          (other_played (loses_next s older t.renderer) s q t.renderer (log_of s older) (record_of q older) (record_of t.renderer older) (told_length s t.renderer older) t.act t.own (legal_record s q older h.1) h.0.plays (λ e. p.1 (sym e)))
     ]

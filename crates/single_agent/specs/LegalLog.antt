@@ -2,7 +2,7 @@
 use Rattle.std.specs.Prelude.{ℕ, ◌<◌, List, ◌∷◌, ◌++◌, None}
 use Rattle.single_agent.specs.Names.{Session, Request, Entry, Lost}
 use Rattle.single_agent.specs.Session.{starts_of}
-use Rattle.single_agent.specs.Decision.{rules_of, exchange}
+use Rattle.coordinator_rules.specs.Decision.{rules_of, exchange}
 
 -- the loss of a renderer
 abbrev pub lost_entry : ℕ → Entry

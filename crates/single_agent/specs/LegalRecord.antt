@@ -4,7 +4,9 @@ use Rattle.std.specs.Prelude.{◌≡◌, ◌⊎◌, ℕ, ◌+◌, ◌≤◌, Lis
 use Rattle.single_agent.specs.Names.{Session, Act, Entry, What, Lost}
 use Rattle.tree_log.specs.Log.{prefix, is_by}
 use Rattle.single_agent.specs.LegalLog.{lost_entry}
-use Rattle.single_agent.specs.NextAct.{length_of, newest_length, has_stopped, IsActOn, IsLostOn}
+use Rattle.single_agent.specs.Lengths.{length_of, newest_length, has_stopped}
+use Rattle.single_agent.specs.NextAct.{IsActOn}
+use Rattle.single_agent.specs.LostAct.{IsLostOn}
 
 -- the act is the next one on some prefix of the log that holds all that the older acts had heard, or is lost there; its
 -- entries follow that prefix
@@ -23,13 +25,13 @@ LegalActs s r log [] mine = mine ≡ []
 LegalActs s r log (act ∷ older) mine =
     (own : List Entry) × (rest : List Entry) × StandsIn s r log older act own × LegalActs s r log older rest × (mine ≡ own ++ rest)
 
-abbrev pub loses : ℕ → What → Bool
-loses r (Lost x) = x == r
-loses r _ = false
+abbrev pub is_loss_of : ℕ → What → Bool
+is_loss_of r (Lost x) = x == r
+is_loss_of r _ = false
 
 -- whether an entry is the loss of renderer r
 abbrev pub is_loss : ℕ → Entry → Bool
-is_loss r e = is_none e.by && loses r e.what
+is_loss r e = is_none e.by && is_loss_of r e.what
 
 -- the entries that renderer r made, and those of its loss
 unfoldable pub about : ℕ → List Entry → List Entry

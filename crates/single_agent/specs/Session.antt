@@ -5,8 +5,8 @@ use Rattle.origin_core.specs.Flags.{has_scripts}
 use Rattle.origin_core.specs.Origin.{loaded_origin, start_origin}
 use Rattle.single_agent.specs.Names.{Session, Lose, Point, Script, Handler, Step, Entry, Load, Open}
 use Rattle.tree_log.specs.Tree.{Tree, tree_of, nav_of}
-use Rattle.single_agent.specs.declared.session.Page.{Page}
-use Rattle.single_agent.specs.Decision.{Rules, rules_of, load_of}
+use Rattle.agent_terms.specs.declared.session.Page.{Page}
+use Rattle.coordinator_rules.specs.Decision.{Rules, rules_of, load_of}
 
 -- the steps of a page that a point is in: its script, or its handler of messages
 abbrev pub steps_in : Point → Option Page → List Step

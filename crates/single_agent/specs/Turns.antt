@@ -2,14 +2,18 @@
 use Rattle.std.specs.Prelude.{◌≡◌, ◌⊎◌, ℕ, ◌+◌, ◌-◌, ◌<◌, ◌≤◌, ◌%◌, ◌==◌, ◌&&◌, ◌||◌, not, nat_lt, List, [], ◌∷◌, ◌++◌, Bool, true, false, IsTrue, length, take, Option, Some, None, is_some, slice_get, if◌then◌else◌}
 use Rattle.std.specs.List.{list_any}
 use Rattle.single_agent.specs.Names.{Session, Act, Move, Answers, Asks, Takes, Stays, Lose, Entry}
-use Rattle.single_agent.specs.declared.act.Ending.{Ending}
-use Rattle.single_agent.specs.declared.act.Ending.TheVariants.{Done, LogFull, ActsFull}
+use Rattle.agent_terms.specs.declared.act.Ending.{Ending}
+use Rattle.agent_terms.specs.declared.act.Ending.TheVariants.{Done, LogFull, ActsFull}
+use Rattle.agent_terms.specs.Limits.{most_acts, most_entries, most_made}
 use Rattle.tree_log.specs.Tree.{Tree, tree_of, is, is_active}
-use Rattle.single_agent.specs.Decision.{rules_of, asker_of, home_if_active}
+use Rattle.coordinator_rules.specs.Decision.{rules_of, asker_of, home_if_active}
 use Rattle.single_agent.specs.Session.{starts_of, lose_of}
 use Rattle.single_agent.specs.LegalLog.{lost_entry}
-use Rattle.single_agent.specs.NextTask.{next_task}
-use Rattle.single_agent.specs.NextAct.{length_of, newest_length, has_stopped, next_move, request_of, lost_act, exchanged, IsActOn}
+use Rattle.coordinator_rules.specs.NextTask.{next_task}
+use Rattle.single_agent.specs.Lengths.{length_of, newest_length, has_stopped}
+use Rattle.single_agent.specs.NextMove.{next_move, move_request}
+use Rattle.single_agent.specs.LostAct.{lost_act, exchanged}
+use Rattle.single_agent.specs.NextAct.{IsActOn}
 
 -- a turn: whose it was, the act where there was one, and the entries that it made
 pub record Turned : Type 0 where
@@ -38,22 +42,15 @@ is_exchange (Asks doc point op request) = true
 is_exchange Takes = true
 is_exchange Stays = false
 
--- Limits: how many acts a record, and how many entries a log has at most
-abbrev pub most_acts : ℕ
-most_acts = 20000
-
-abbrev pub most_entries : ℕ
-most_entries = 20000
-
--- there is room for the entries of one exchange
+-- Room: there is room for the entries of one exchange
 abbrev pub HasRoom : List Entry → Type 0
-HasRoom log = length log + 4 ≤ most_entries
+HasRoom log = length log + most_made ≤ most_entries
 
 abbrev pub IsFull : List Entry → Type 0
-IsFull log = most_entries < length log + 4
+IsFull log = most_entries < length log + most_made
 
 abbrev pub is_full : List Entry → Bool
-is_full log = nat_lt most_entries (length log + 4)
+is_full log = nat_lt most_entries (length log + most_made)
 
 -- Losses: how many exchanges a renderer's acts made: the tasks that it took, and the steps that asked
 unfoldable pub calls_of : Session → List Entry → List Act → ℕ
@@ -82,14 +79,14 @@ is_served (Some l) = l.served
 -- what a lost exchange leaves in the log: its entries, where it is served and there is room, and the loss
 abbrev pub lost_entries : Session → ℕ → List Entry → List Act → List Entry
 lost_entries s r log acts =
-    lost_entry r ∷ (if is_served (lose_of s r) && not (is_full log) then exchanged (rules_of s) log r (request_of (next_move s log acts)) else [])
+    lost_entry r ∷ (if is_served (lose_of s r) && not (is_full log) then exchanged (rules_of s) log r (move_request (next_move s log acts)) else [])
 
 -- how much of the log renderer r was told: the whole log, after each of its exchanges that wasn't lost
-unfoldable pub told_of : Session → ℕ → List Turned → ℕ
-told_of s r [] = 0
-told_of s r (t ∷ older) =
+unfoldable pub told_length : Session → ℕ → List Turned → ℕ
+told_length s r [] = 0
+told_length s r (t ∷ older) =
     if t.renderer == r && is_exchange (next_move s (log_of s older) (record_of r older)) && not (is_losing s r (log_of s older) (record_of r older))
-    then length (t.own ++ log_of s older) else told_of s r older
+    then length (t.own ++ log_of s older) else told_length s r older
 
 -- Whose turn is next: whether there was an act
 abbrev pub is_some_act : Option Act → Bool
@@ -139,11 +136,11 @@ Does s r log acts told None own = HasNothing s r log acts × (own ≡ [])
 Does s r log acts told (Some act) own = IsActOn s r log acts act own × (told ≤ length_of act)
 
 -- where its exchange is lost, the act is the lost one, and the loss of r follows
-abbrev pub Loses : Session → ℕ → List Entry → List Act → ℕ → Option Act → List Entry → Type 0
-Loses s r log acts told act own = (act ≡ lost_act (newest_length acts) told (next_move s log acts)) × (own ≡ lost_entries s r log acts)
+abbrev pub LosesAct : Session → ℕ → List Entry → List Act → ℕ → Option Act → List Entry → Type 0
+LosesAct s r log acts told act own = (act ≡ lost_act (newest_length acts) told (next_move s log acts)) × (own ≡ lost_entries s r log acts)
 
 abbrev pub Plays : Bool → Session → ℕ → List Entry → List Act → ℕ → Option Act → List Entry → Type 0
-Plays true = Loses
+Plays true = LosesAct
 Plays false = Does
 
 -- a turn after others
@@ -152,7 +149,7 @@ pub record IsTurn (s : Session) (older : List Turned) (t : Turned) : Type 0 wher
   pub there : t.renderer < s.renderers
   pub fewer : GoesOn older t.renderer → length (record_of t.renderer older) < most_acts
   pub room : NeedsRoom s older t.renderer → HasRoom (log_of s older)
-  pub plays : Plays (loses_next s older t.renderer) s t.renderer (log_of s older) (record_of t.renderer older) (told_of s t.renderer older) t.act t.own
+  pub plays : Plays (loses_next s older t.renderer) s t.renderer (log_of s older) (record_of t.renderer older) (told_length s t.renderer older) t.act t.own
 
 -- turns, each after those before it
 abbrev pub ArePlayed : Session → List Turned → Type 0

@@ -1,5 +1,5 @@
 ghost use Rattle.std.specs.Prelude.{◌≡◌, ℕ, List, length};
-ghost use Rattle.single_agent.specs.declared.session.Session.{Session};
+ghost use Rattle.agent_terms.specs.declared.session.Session.{Session};
 ghost use Rattle.single_agent.specs.LegalLog.{IsLegalLog};
 ghost use Rattle.single_agent.specs.LegalRecord.{IsLegalRecord};
 ghost use Rattle.single_agent.specs.Turns.{Turned, IsTurn, ArePlayed, log_of, record_of};

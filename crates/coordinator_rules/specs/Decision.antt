@@ -2,16 +2,16 @@
 -- project's own; what each does is that of the HTML Standard: 4.8.5, a frame; 7.2.2.1, open and close; 4.6.4, a link;
 -- 7.4.2, navigation; 7.2.2.4, name and opener; 9.3.3, postMessage.
 use Rattle.std.specs.Prelude.{ℕ, ◌+◌, List, [], ◌∷◌, ◌++◌, length, Option, Some, None, Bool, false, not, ◌==◌, ◌&&◌, ◌||◌, nat_lt, is_none, is_some, unwrap_or, codes, if◌then◌else◌}
-use Rattle.single_agent.specs.Names.{Origin, Request, ReplyOutcome, Session, Entry, Load, What}
+use Rattle.coordinator_rules.specs.Names.{Origin, Request, ReplyOutcome, Session, Entry, Load, What}
 use Rattle.origin_core.specs.Flags.{has_navigation, has_origin, has_propagates, union}
-use Rattle.origin_core.specs.Origin.{is_same_origin_domain, page_origin, loaded_origin, frame_origin, window_origin}
+use Rattle.origin_core.specs.Origin.{page_origin, loaded_origin, frame_origin, window_origin}
 use Rattle.origin_core.specs.Page.{fragment_of, is_same_but_fragment}
 use Rattle.origin_core.specs.Site.{site_of}
-use Rattle.tree_log.specs.Tree.{Tree, tree_of, is, home_of, origin_of, nav_of, is_active, group_of, children_of, same_group}
+use Rattle.tree_log.specs.Tree.{Tree, tree_of, is, home_of, origin_of, nav_of, is_active, group_of, children_of, same_group, same_domain}
 use Rattle.tree_log.specs.Urls.{url_of}
 use Rattle.tree_log.specs.Homes.{home_for}
-use Rattle.single_agent.specs.NextTask.{next_task, task_entry}
-use Rattle.single_agent.specs.Navigation.{flags_in, is_in, is_word, may_navigate, may_close, Choice, Existing, New, Nothing, choice}
+use Rattle.coordinator_rules.specs.NextTask.{next_task, task_entry}
+use Rattle.coordinator_rules.specs.Navigation.{flags_in, is_in, is_word, may_navigate, may_close, Choice, Existing, New, Nothing, choice}
 
 -- what the coordinator goes by: the number of renderers, and the public suffixes
 pub record Rules : Type 0 where
@@ -49,8 +49,8 @@ frame_load rules t asker flags None = None
 frame_load rules t asker flags (Some url) =
     if is_none (page_origin url) then None else Some (load_for rules t (group_in t (nav_of t asker)) flags (t.docs + 1) asker url)
 
-abbrev pub framed : Rules → Tree → ℕ → List ℕ → ℕ → Option (List ℕ) → What
-framed rules t asker name flags url =
+abbrev pub frame_entry : Rules → Tree → ℕ → List ℕ → ℕ → Option (List ℕ) → What
+frame_entry rules t asker name flags url =
     What.Frame t.navs t.docs (home_of t asker) (frame_origin (has_origin flags) t.docs (origin_of t asker)) name flags (frame_load rules t asker flags url)
 
 -- the navigation of n to a URL: a fragment navigation, or a load
@@ -75,15 +75,15 @@ abbrev pub unless : Bool → ℕ → Option ℕ
 unless noopener n = if noopener then None else Some n
 
 -- a new window of group g, made from navigable n
-abbrev pub opened : Rules → Tree → ℕ → ℕ → ℕ → List ℕ → Bool → Option (List ℕ) → What
-opened rules t asker n g name noopener url =
+abbrev pub open_entry : Rules → Tree → ℕ → ℕ → ℕ → List ℕ → Bool → Option (List ℕ) → What
+open_entry rules t asker n g name noopener url =
     What.Open t.navs t.docs g (home_of t asker) (window_origin noopener t.docs (origin_of t asker)) (window_name name)
     (unless noopener n) (window_flags t n) (unless (noopener || not (has_navigation (flags_in t n))) n)
     (window_load rules t asker g (window_flags t n) url)
 
 abbrev pub new_window : Rules → Tree → ℕ → List ℕ → Bool → Option (List ℕ) → What
 new_window rules t asker name noopener url =
-    opened rules t asker (nav_of t asker) (if noopener then t.groups else group_in t (nav_of t asker)) name noopener url
+    open_entry rules t asker (nav_of t asker) (if noopener then t.groups else group_in t (nav_of t asker)) name noopener url
 
 -- the opener of an existing navigable is set, unless it is the one that asks
 abbrev pub opener_entry : Tree → ℕ → ℕ → Bool → ℕ → List Entry
@@ -126,7 +126,7 @@ is_live t asker doc = is_near t asker doc && is_active t doc
 abbrev pub if_open : Tree → ℕ → ℕ → ℕ → What → Decision
 if_open t r asker doc w =
     if is_live t asker doc then
-    if is_same_origin_domain (origin_of t asker) (origin_of t doc) then one r asker w ReplyOutcome.Done
+    if same_domain t asker doc then one r asker w ReplyOutcome.Done
     else one r asker What.Sync (ReplyOutcome.Security 8)
     else one r asker What.Sync ReplyOutcome.Done
 
@@ -135,7 +135,7 @@ unfoldable pub decide : Rules → Tree → Bool → ℕ → Request → Decision
 decide rules t fragment r Request.Next = record { entries = []; outcome = ReplyOutcome.Nothing }
 decide rules t fragment r (Request.Sync asker) = one r asker What.Sync ReplyOutcome.Done
 decide rules t fragment r (Request.Frame asker name flags url) =
-    one r asker (framed rules t asker name (union flags (flags_in t (nav_of t asker))) url) (ReplyOutcome.Made t.navs)
+    one r asker (frame_entry rules t asker name (union flags (flags_in t (nav_of t asker))) url) (ReplyOutcome.Made t.navs)
 decide rules t fragment r (Request.Drop asker nav) = one r asker (if is_in nav (children_of t asker) then What.Drop nav else What.Sync) ReplyOutcome.Done
 decide rules t fragment r (Request.Open asker url name noopener user) =
     open_chosen rules t fragment r asker url name noopener user (choice t (nav_of t asker) name noopener user)
@@ -201,8 +201,8 @@ abbrev pub home_if_active : Tree → ℕ → Option ℕ
 home_if_active t d = if (t.doc d).been_active then Some (home_of t d) else None
 
 -- on a request of a document of that renderer
-unfoldable pub asked : Rules → List Entry → ℕ → Request → Decision
-asked rules log r request =
+unfoldable pub asked_decision : Rules → List Entry → ℕ → Request → Decision
+asked_decision rules log r request =
     if is_active (tree_of log) (asker_of request) then decide rules (tree_of log) (is_fragment (tree_of log) (url_of log) request) r request
     else record { entries = []; outcome = ReplyOutcome.Unloaded (end_of log (asker_of request)) }
 
@@ -215,5 +215,5 @@ task_decision r place (Some w) = record { entries = task_entry r w ∷ []; outco
 unfoldable pub exchange : Rules → List Entry → ℕ → Request → Decision
 exchange rules log r Request.Next = task_decision r (length log) (next_task log r)
 exchange rules log r request =
-    if is (home_if_active (tree_of log) (asker_of request)) r then asked rules log r request
+    if is (home_if_active (tree_of log) (asker_of request)) r then asked_decision rules log r request
     else record { entries = []; outcome = ReplyOutcome.NotYours (asker_of request) (home_if_active (tree_of log) (asker_of request)) }

@@ -1,13 +1,13 @@
 -- A Location as a document meets it (HTML Standard, 7.2.4, the Location interface).
 use Rattle.std.specs.Prelude.{ℕ, List, false, Option, Some, None, codes, if◌then◌else◌}
-use Rattle.single_agent.specs.Names.{Origin, Value, Kind, Object, Platform, Outcome}
-use Rattle.origin_core.specs.Origin.{origin_text, page_origin, is_same_origin_domain}
+use Rattle.object_access.specs.Names.{Origin, Value, Kind, Object, Platform, Outcome}
+use Rattle.origin_core.specs.Origin.{origin_text, page_origin}
 use Rattle.window_props.specs.Platform.{named}
-use Rattle.tree_log.specs.Tree.{Tree, is_active, origin_of}
-use Rattle.single_agent.specs.Values.{undefined, text}
-use Rattle.single_agent.specs.Access.{Seen}
-use Rattle.single_agent.specs.Going.{set_href}
-use Rattle.single_agent.specs.WindowAccess.{got_by, set_by}
+use Rattle.tree_log.specs.Tree.{Tree, is_active, origin_of, same_domain}
+use Rattle.object_access.specs.Values.{undefined, text}
+use Rattle.object_access.specs.Access.{Seen}
+use Rattle.object_access.specs.Going.{set_href}
+use Rattle.object_access.specs.WindowAccess.{got_by, set_by}
 
 -- the URL of a Location whose document isn't active is `about:blank`
 abbrev pub location_url : Tree → (ℕ → List ℕ) → ℕ → List ℕ
@@ -30,7 +30,7 @@ location_set t urls asker d _ v = Outcome.Truth false
 -- the Location of document d, as document asker meets it: it has neither children nor a rule of indices
 unfoldable pub location : Tree → (ℕ → List ℕ) → ℕ → ℕ → Seen
 location t urls asker d = record {
-  own = is_same_origin_domain (origin_of t asker) (origin_of t d);
+  own = same_domain t asker d;
   object = Object.Location d;
   kind = Kind.Location;
   count = 0;

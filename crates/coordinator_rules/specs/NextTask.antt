@@ -1,12 +1,13 @@
 -- What waits at a renderer, and what it does next (HTML Standard, 8.1.7, event loops; 7.4.2.2, beginning navigation; 9.3.3,
 -- posting messages; 7.2.2.1, close). One queue of tasks for each renderer, in the order of the log, is this project's own.
 use Rattle.std.specs.Prelude.{ℕ, List, [], ◌∷◌, length, Option, Some, None, Bool, true, false, not, ◌==◌, ◌&&◌, if◌then◌else◌}
-use Rattle.single_agent.specs.Names.{Origin, Entry, Load, Target, What, Open, Frame, Begin, Commit, Post, Fire, Lapse, Closing, Gone}
+use Rattle.std.specs.Option.{option_or}
+use Rattle.coordinator_rules.specs.Names.{Origin, Entry, Load, Target, What, Open, Frame, Begin, Commit, Post, Fire, Lapse, Closing, Gone}
 use Rattle.origin_core.specs.Origin.{is_same_origin}
 use Rattle.tree_log.specs.declared.entry.Target.TheVariants as targets
 use Rattle.tree_log.specs.declared.entry.Cause.TheVariants as causes
 use Rattle.tree_log.specs.Log.{is}
-use Rattle.tree_log.specs.Facts.{or_else, some_entry}
+use Rattle.tree_log.specs.Facts.{some_entry}
 use Rattle.tree_log.specs.Tree.{Tree, tree_of, home_of, origin_of, is_active, is_discarded}
 
 -- Loads: a load waits at the home of its document until it is committed, a later load of its navigable begins, or the
@@ -60,7 +61,7 @@ task_of t over r place _ = None
 -- the first task that the entries of a log leave
 abbrev pub first_task : Tree → (ℕ → ℕ → Bool) → ℕ → List Entry → Option What
 first_task t over r [] = None
-first_task t over r (e ∷ older) = or_else (first_task t over r older) (task_of t over r (length older) e.what)
+first_task t over r (e ∷ older) = option_or (first_task t over r older) (task_of t over r (length older) e.what)
 
 -- the next task of renderer r: that of its waiting item of least place
 unfoldable pub next_task : List Entry → ℕ → Option What

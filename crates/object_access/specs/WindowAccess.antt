@@ -1,14 +1,14 @@
 -- A Window as a document meets it (HTML Standard, 7.2.3, the WindowProxy exotic object), and its attributes (7.2.2, the Window object).
 use Rattle.std.specs.Prelude.{ℕ, List, [], length, slice_get, Option, Some, None, false, ◌||◌, if◌then◌else◌, is_some, unwrap_or}
-use Rattle.origin_core.specs.Origin.{origin_text, is_same_origin_domain}
-use Rattle.single_agent.specs.Names.{Key, Value, Kind, Object, Platform, Outcome, Ask}
+use Rattle.origin_core.specs.Origin.{origin_text}
+use Rattle.object_access.specs.Names.{Key, Value, Kind, Object, Platform, Outcome, Ask}
 use Rattle.window_props.specs.Keys.{array_index}
 use Rattle.window_props.specs.Platform.{named}
-use Rattle.tree_log.specs.Tree.{Tree, is_discarded, parent_of, top_level_of, children_of, origin_of}
+use Rattle.tree_log.specs.Tree.{Tree, is_discarded, parent_of, top_level_of, children_of, origin_of, same_domain}
 use Rattle.tree_log.specs.NamedChildren.{child_named}
-use Rattle.single_agent.specs.Values.{undefined, null, truth, text, whole, window_or}
-use Rattle.single_agent.specs.Access.{Seen}
-use Rattle.single_agent.specs.Going.{with_text, set_href}
+use Rattle.object_access.specs.Values.{undefined, null, truth, text, whole, window_or}
+use Rattle.object_access.specs.Access.{Seen}
+use Rattle.object_access.specs.Going.{with_text, set_href}
 
 -- The attributes: the parent of a top-level is itself; a discarded navigable has none
 abbrev pub parent_value : Tree → ℕ → Value
@@ -60,7 +60,7 @@ child_by f _ = None
 -- the Window of document d, as document asker meets it
 unfoldable pub window_of : Tree → (ℕ → List ℕ) → ℕ → ℕ → ℕ → Seen
 window_of t urls asker n d = record {
-  own = is_same_origin_domain (origin_of t asker) (origin_of t d);
+  own = same_domain t asker d;
   object = Object.Window d;
   kind = Kind.Window;
   count = length (children_of t d);

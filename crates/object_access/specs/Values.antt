@@ -2,7 +2,7 @@
 use Rattle.std.specs.Prelude.{ℕ, List, Bool, true, false, Option, Some, None, codes, pos}
 use Rattle.std.specs.Fmt.{signed_decimal}
 use Rattle.plain_data.specs.declared.data.Data.{Data}
-use Rattle.single_agent.specs.Names.{Value}
+use Rattle.object_access.specs.Names.{Value}
 
 abbrev pub undefined : Value
 undefined = Value.Plain Data.Undefined

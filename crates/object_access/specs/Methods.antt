@@ -1,18 +1,18 @@
--- A call of what stands under a key, and what the platform's methods do (HTML Standard, 7.2.2.1, close, focus and blur;
--- 9.3.3, postMessage; 7.2.4, assign and replace).
+-- A call of what stands under a key, and what the platform's methods do (HTML Standard, 7.2.2.1, close;
+-- 6.6.6, focus and blur; 9.3.3, postMessage; 7.2.4, assign and replace).
 use Rattle.std.specs.Prelude.{ℕ, List, [], ◌∷◌, ◌&&◌, Option, Some, None, Result, Ok, Err, find, option_and_then, bytes_eq, codes, slice_get, if◌then◌else◌}
 use Rattle.plain_data.specs.declared.data.Data.{Data, out-Data}
 use Rattle.plain_data.specs.declared.data.Data.TheOpen.{Data-F}
-use Rattle.single_agent.specs.Names.{Origin, UrlError, Key, Value, Object, Outcome, Ask, Target}
+use Rattle.object_access.specs.Names.{Origin, UrlError, Key, Value, Object, Outcome, Ask, Target}
 use Rattle.origin_core.specs.Origin.{origin_read}
 use Rattle.window_props.specs.declared.value.Method.{Method}
 use Rattle.window_props.specs.Values.{same_method, same_object}
 use Rattle.window_props.specs.Platform.{named, method_of}
 use Rattle.window_props.specs.History.{Store}
 use Rattle.tree_log.specs.Tree.{Tree, origin_of}
-use Rattle.single_agent.specs.Values.{undefined, text_of}
-use Rattle.single_agent.specs.Access.{Seen, got}
-use Rattle.single_agent.specs.Going.{go, or_else_outcome, with_text}
+use Rattle.object_access.specs.Values.{undefined, text_of}
+use Rattle.object_access.specs.Access.{Seen, got}
+use Rattle.object_access.specs.Going.{go, or_else_outcome, with_text}
 
 -- Messages: the text of a record's field `targetOrigin`; `/` where it is missing or undefined
 abbrev pub text_of_field : Option (List ℕ × Data) → Option (List ℕ)

@@ -3,13 +3,13 @@
 use Rattle.std.specs.Prelude.{ℕ, List, Option, Some, None, ◌==◌, ◌&&◌, bytes_eq, codes, if◌then◌else◌}
 use Rattle.std.specs.Option.{option_map_or}
 use Rattle.origin_core.specs.Origin.{origin_text}
-use Rattle.single_agent.specs.Names.{Value, Step, Answer, Entry, What, Post, Fire}
+use Rattle.object_access.specs.Names.{Value, Step, Answer, Entry, What, Post, Fire}
 use Rattle.tree_log.specs.Log.{entry_at}
 use Rattle.window_props.specs.declared.value.Value.TheVariants as value
-use Rattle.single_agent.specs.declared.step.Step.TheVariants as step
-use Rattle.single_agent.specs.declared.act.Answer.TheVariants as answer
-use Rattle.single_agent.specs.declared.outcome.Outcome.TheVariants as outcome
-use Rattle.single_agent.specs.Values.{undefined, text}
+use Rattle.agent_terms.specs.declared.step.Step.TheVariants as step
+use Rattle.agent_terms.specs.declared.act.Answer.TheVariants as answer
+use Rattle.agent_terms.specs.declared.outcome.Outcome.TheVariants as outcome
+use Rattle.object_access.specs.Values.{undefined, text}
 
 -- nothing was written yet
 abbrev pub unset : ℕ → List ℕ → Value

@@ -1,16 +1,16 @@
--- What an access to an object answers, own and foreign (HTML Standard, 7.2.3, the WindowProxy exotic object, and 7.2.4.3,
--- the Location exotic object; ECMA-262, 10.1). It is said once, for a Window and a Location alike.
-use Rattle.std.specs.Prelude.{ℕ, List, ◌++◌, ◌&&◌, map, Bool, true, false, Option, Some, None, Result, Ok, Err, if◌then◌else◌, is_some, is_none, option_map, decimal}
+-- What an access to an object answers, own and foreign (HTML Standard, 7.2.3.1 to 7.2.3.10, the WindowProxy exotic object,
+-- and 7.2.4.1 to 7.2.4.10, the Location exotic object; ECMA-262, 10.1). It is said once, for a Window and a Location alike.
+use Rattle.std.specs.Prelude.{ℕ, List, ◌++◌, ◌&&◌, not, map, Bool, true, false, Option, Some, None, Result, Ok, Err, if◌then◌else◌, is_some, is_none, option_map, decimal}
 use Rattle.std.specs.List.{range_with_len}
 use Rattle.std.specs.Option.{option_or}
-use Rattle.single_agent.specs.Names.{Key, Value, Kind, Change, Object, Outcome, Rule, S1, S2, S3, S4, S5, S6}
+use Rattle.object_access.specs.Names.{Key, Value, Kind, Change, Object, Outcome, Rule, S1, S2, S3, S4, S5, S6}
 use Rattle.window_props.specs.declared.descriptor.Body.{Body}
 use Rattle.window_props.specs.declared.descriptor.Descriptor.{Descriptor}
 use Rattle.window_props.specs.declared.props.SetAnswer.{SetAnswer}
 use Rattle.window_props.specs.Ordinary.{Act, Define, Set, Delete}
-use Rattle.window_props.specs.History.{Store, Call, after, answer_in}
+use Rattle.window_props.specs.History.{Store, Call, store_after, answer_in}
 use Rattle.window_props.specs.Cross.{listed, list_keys, is_fallback, fallback_keys}
-use Rattle.single_agent.specs.Values.{undefined, null, window_or}
+use Rattle.object_access.specs.Values.{undefined, null, window_or}
 
 -- an object as the asker meets it
 pub record Seen : Type 0 where
@@ -98,12 +98,12 @@ set_foreign s key v (Ok d) = elim d.body [
   | Body.Accessor _ set ↦ if set then s.setter key v else Outcome.Security S4
 ]
 
-abbrev pub called : Key → Act → Call
-called key act = record { key = key; act = act }
+abbrev pub call_of : Key → Act → Call
+call_of key act = record { key = key; act = act }
 
 unfoldable pub set : Seen → Store → Key → Value → Outcome
 set s props key v =
-    if s.own then elim (s.index key) [ Some i ↦ Outcome.Truth false | None ↦ settled_own s key v (answer_in props (called key (Set v))) ]
+    if s.own then elim (s.index key) [ Some i ↦ Outcome.Truth false | None ↦ settled_own s key v (answer_in props (call_of key (Set v))) ]
     else set_foreign s key v (foreign_property s key)
 
 -- Define and delete: neither comes to a setter
@@ -114,17 +114,17 @@ truth_of SetAnswer.TypeFault = Outcome.TypeFault
 
 unfoldable pub defined : Seen → Store → Key → Change → Outcome
 defined s props key change =
-    if s.own then elim (s.index key) [ Some i ↦ Outcome.Truth false | None ↦ truth_of (answer_in props (called key (Define change))) ]
+    if s.own then elim (s.index key) [ Some i ↦ Outcome.Truth false | None ↦ truth_of (answer_in props (call_of key (Define change))) ]
     else Outcome.Security S5
 
 unfoldable pub deleted : Seen → Store → Key → Outcome
 deleted s props key =
-    if s.own then elim (s.index key) [ Some i ↦ Outcome.Truth (is_none (s.child i)) | None ↦ truth_of (answer_in props (called key Delete)) ]
+    if s.own then elim (s.index key) [ Some i ↦ Outcome.Truth (is_none (s.child i)) | None ↦ truth_of (answer_in props (call_of key Delete)) ]
     else Outcome.Security S6
 
 -- the properties afterwards: an act at an index, or by others, changes nothing
-unfoldable pub left : Seen → Store → Key → Act → Store
-left s props key act = if s.own && is_none (s.index key) then after props (called key act) else props
+unfoldable pub store_left : Seen → Store → Key → Act → Store
+store_left s props key act = if s.own && is_none (s.index key) then store_after props (call_of key act) else props
 
 -- Keys and prototype: the key of an array index
 abbrev pub index_key : ℕ → Key
@@ -138,3 +138,16 @@ keys s props = Outcome.Keys (index_keys s.count ++ (if s.own then props.keys els
 
 unfoldable pub prototype : Seen → Outcome
 prototype s = Outcome.Value (if s.own then Value.Prototype s.kind else null)
+
+-- a set of the prototype to null ([[SetPrototypeOf]], 7.2.3.2 and 7.2.4.2: SetImmutablePrototype): it is done where the
+-- prototype is null already, as it is for others
+abbrev pub prototype_set : Seen → Outcome
+prototype_set s = Outcome.Truth (not s.own)
+
+-- whether the object is extensible ([[IsExtensible]], 7.2.3.3 and 7.2.4.3): it is, for its own documents and for others
+abbrev pub extensible : Seen → Outcome
+extensible s = Outcome.Truth true
+
+-- an end to its extensions ([[PreventExtensions]], 7.2.3.4 and 7.2.4.4): it is done for none
+abbrev pub prevented : Seen → Outcome
+prevented s = Outcome.Truth false

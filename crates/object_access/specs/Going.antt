@@ -1,9 +1,9 @@
 -- Where a Location's setter and methods, and a Window's setter of `location`, go to (HTML Standard, 7.2.4, Location-object navigate).
 use Rattle.std.specs.Prelude.{ℕ, List, true, Option, Some, None, Result, Ok, Err, if◌then◌else◌}
 use Rattle.origin_core.specs.Page.{read_page}
-use Rattle.single_agent.specs.Names.{UrlError, Value, Outcome, Ask}
+use Rattle.object_access.specs.Names.{UrlError, Value, Outcome, Ask}
 use Rattle.tree_log.specs.Tree.{Tree, is_active}
-use Rattle.single_agent.specs.Values.{text_of}
+use Rattle.object_access.specs.Values.{text_of}
 
 abbrev pub gone_to : ℕ → Result (List ℕ) UrlError → Outcome
 gone_to doc (Ok page) = Outcome.Ask (Ask.Go doc page)

@@ -1,0 +1,10 @@
+pub mod Names
+pub mod Values
+pub mod Access
+pub mod Going
+pub mod WindowAccess
+pub mod LocationAccess
+pub mod Verdict
+pub mod Methods
+pub mod Registers
+pub mod StepAnswer

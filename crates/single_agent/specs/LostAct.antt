@@ -1,0 +1,28 @@
+-- Acts whose exchange with the coordinator fails. Renderers, and their losses, are this project's own.
+use Rattle.std.specs.Prelude.{ℕ, ◌≡◌, ◌⊎◌, ◌+◌, ◌≤◌, List, [], ◌∷◌, length, ◌==◌, ◌||◌, Option, Some, None, if◌then◌else◌}
+use Rattle.single_agent.specs.Names.{Session, Act, Move, Asks, Takes, Request, Entry}
+use Rattle.agent_terms.specs.declared.step.OpName.TheVariants as op
+use Rattle.agent_terms.specs.declared.act.Act.TheVariants.{Step as StepAct, LostTask}
+use Rattle.agent_terms.specs.declared.act.Answer.TheVariants as answer
+use Rattle.coordinator_rules.specs.Decision.{Rules, rules_of, exchange}
+use Rattle.single_agent.specs.Lengths.{newest_length}
+use Rattle.single_agent.specs.NextMove.{next_move, move_request}
+
+-- Lost acts: that of a move whose exchange fails. A step has the length of the act before, a task how much the renderer had heard
+abbrev pub lost_act : ℕ → ℕ → Move → Option Act
+lost_act newest heard (Asks doc point op q) = Some (StepAct newest doc point op answer.Lost)
+lost_act newest heard Takes = Some (LostTask heard)
+lost_act newest heard _ = None
+
+-- the entries of a move's exchange
+abbrev pub exchanged : Rules → List Entry → ℕ → Option Request → List Entry
+exchanged rules log r None = []
+exchanged rules log r (Some q) = (exchange rules log r q).entries
+
+-- on the whole log as it stands, the exchange of the next act fails, whether or not it was served
+pub record IsLostOn (s : Session) (r : ℕ) (log : List Entry) (older : List Act) (act : Act) (own : List Entry) : Type 0 where
+  pub heard : ℕ
+  pub later : newest_length older ≤ heard
+  pub within : heard ≤ length log
+  pub lost : lost_act (newest_length older) heard (next_move s log older) ≡ Some act
+  pub served : (own ≡ []) ⊎ (own ≡ exchanged (rules_of s) log r (move_request (next_move s log older)))
