@@ -9,8 +9,8 @@ use Rattle.window_props.specs.declared.descriptor.Descriptor.{Descriptor}
 use Rattle.window_props.specs.declared.platform.Object.{Object}
 use Rattle.window_props.specs.History.{Store}
 use Rattle.tree_log.specs.Tree.{Tree, embedder, nav_of, same_group}
-use Rattle.single_agent.specs.Navigation.{is_in}
-use Rattle.single_agent.specs.NextAct.{document_of}
+use Rattle.coordinator_rules.specs.Navigation.{is_in}
+use Rattle.single_agent.specs.Shown.{document_of}
 use Rattle.agent_laws.specs.Wellness.{IsWell}
 
 -- the window or the document that the value names is there, in the group of document d

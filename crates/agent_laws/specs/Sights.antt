@@ -1,15 +1,14 @@
 -- What a document goes by on a log.
 use Rattle.std.specs.Prelude.{◌≡◌, ◌<◌, ◌⊎◌, ℕ, List, Bool, true, false}
-use Rattle.origin_core.specs.Origin.{is_same_origin_domain}
 use Rattle.window_props.specs.declared.value.Value.{Value}
 use Rattle.window_props.specs.declared.value.Value.TheVariants as value
 use Rattle.window_props.specs.declared.platform.Object.{Object}
 use Rattle.window_props.specs.History.{Store}
 use Rattle.tree_log.specs.declared.entry.Entry.{Entry}
-use Rattle.tree_log.specs.Tree.{Tree, tree_of, nav_of, origin_of, same_group}
+use Rattle.tree_log.specs.Tree.{Tree, tree_of, nav_of, origin_of, same_group, same_domain}
 use Rattle.tree_log.specs.Urls.{url_of}
-use Rattle.single_agent.specs.StepAnswer.{Sight, held}
-use Rattle.single_agent.specs.NextAct.{document_of}
+use Rattle.object_access.specs.StepAnswer.{Sight, held}
+use Rattle.single_agent.specs.Shown.{document_of}
 
 -- on all of a log, with these registers and these properties of objects
 abbrev pub sight_of : List Entry → (ℕ → List ℕ → Value) → (Object → Store) → Sight
@@ -23,7 +22,7 @@ AgreeOn kept stores others = (o : Object) → kept (document_of o) ≡ true → 
 
 -- document e is kept, or foreign to document d
 abbrev pub IsKeptOrForeign : (ℕ → Bool) → Tree → ℕ → ℕ → Type 0
-IsKeptOrForeign kept t d e = (kept e ≡ true) ⊎ (is_same_origin_domain (origin_of t d) (origin_of t e) ≡ false)
+IsKeptOrForeign kept t d e = (kept e ≡ true) ⊎ (same_domain t d e ≡ false)
 
 -- the registers of document d hold Windows and Locations of kept or foreign documents alone
 pub record HoldsKept (kept : ℕ → Bool) (s : Sight) (d : ℕ) : Type 0 where

@@ -1,37 +1,30 @@
 //! Each function does nothing: its contract is the law.
 ghost use Rattle.agent_laws.specs.Actors.{is_next, AreActedBy, IsFenced};
-ghost use Rattle.agent_laws.specs.Alike.{AreAlikeStarts, IsAlike};
 ghost use Rattle.agent_laws.specs.Belonging.{Belongs, IsClosed, RegistersBelong, StoresBelong};
-ghost use Rattle.agent_laws.specs.Homes.{ActorsLoaded, HasWebPages};
 ghost use Rattle.agent_laws.specs.Sights.{AgreeOn, HoldsGroup, HoldsKept, sight_of};
-ghost use Rattle.agent_laws.specs.Twins.{TwinLogs, told, HomesStay};
 ghost use Rattle.agent_laws.specs.Wellness.{AllBelow, IsWell};
-ghost use Rattle.agent_laws.specs.Worlds.{Event, AreAlike, replies};
-ghost use Rattle.origin_core.specs.Origin.{is_same_origin_domain};
-ghost use Rattle.single_agent.specs.Access.{got};
-ghost use Rattle.single_agent.specs.Decision.{Rules, rules_of, asker_of, exchange};
-ghost use Rattle.single_agent.specs.LegalLog.{IsLegalLog, lost_entry};
+ghost use Rattle.object_access.specs.Access.{got};
+ghost use Rattle.coordinator_rules.specs.Decision.{Rules, asker_of, exchange};
+ghost use Rattle.single_agent.specs.LegalLog.{IsLegalLog};
 ghost use Rattle.single_agent.specs.LegalRecord.{about, IsLegalRecord};
-ghost use Rattle.single_agent.specs.LocationAccess.{location};
-ghost use Rattle.single_agent.specs.Navigation.{choice, Existing};
-ghost use Rattle.single_agent.specs.NextAct.{is_seen_by, shown_to};
-ghost use Rattle.single_agent.specs.NextTask.{next_task};
-ghost use Rattle.single_agent.specs.Session.{starts_of};
-ghost use Rattle.single_agent.specs.StepAnswer.{perform, changed};
-ghost use Rattle.single_agent.specs.Turns.{Turned, ArePlayed, log_of, most_entries};
-ghost use Rattle.single_agent.specs.WindowAccess.{window_of};
-ghost use Rattle.single_agent.specs.declared.act.Act.{Act};
-ghost use Rattle.single_agent.specs.declared.act.Performed.TheVariants.{Answer};
-ghost use Rattle.single_agent.specs.declared.outcome.Outcome.TheVariants as outcome;
-ghost use Rattle.single_agent.specs.declared.request.ReplyOutcome.TheVariants as reply;
-ghost use Rattle.single_agent.specs.declared.request.Request.TheVariants as ask;
-ghost use Rattle.single_agent.specs.declared.request.Request.{Request};
-ghost use Rattle.single_agent.specs.declared.session.Session.{Session};
-ghost use Rattle.single_agent.specs.declared.step.Step.{Step};
-ghost use Rattle.std.specs.Prelude.{◌≡◌, ◌⊎◌, ◌+◌, ◌<◌, ◌≤◌, ◌^◌, ◌++◌, ◌∷◌, [], ℕ, Bool, Some, None, true, false, length, List};
+ghost use Rattle.object_access.specs.LocationAccess.{location};
+ghost use Rattle.coordinator_rules.specs.Navigation.{choice, Existing};
+ghost use Rattle.single_agent.specs.Shown.{is_seen_by};
+ghost use Rattle.coordinator_rules.specs.NextTask.{next_task};
+ghost use Rattle.object_access.specs.StepAnswer.{perform, step_stores};
+ghost use Rattle.object_access.specs.WindowAccess.{window_of};
+ghost use Rattle.agent_terms.specs.declared.act.Act.{Act};
+ghost use Rattle.agent_terms.specs.declared.act.Performed.TheVariants.{Answer};
+ghost use Rattle.agent_terms.specs.declared.outcome.Outcome.TheVariants as outcome;
+ghost use Rattle.agent_terms.specs.declared.request.ReplyOutcome.TheVariants as reply;
+ghost use Rattle.agent_terms.specs.declared.request.Request.TheVariants as ask;
+ghost use Rattle.agent_terms.specs.declared.request.Request.{Request};
+ghost use Rattle.agent_terms.specs.declared.session.Session.{Session};
+ghost use Rattle.agent_terms.specs.declared.step.Step.{Step};
+ghost use Rattle.std.specs.Prelude.{ℕ, ◌≡◌, ◌⊎◌, ◌+◌, ◌<◌, ◌^◌, ◌++◌, [], Bool, Some, None, true, false, length, List};
 ghost use Rattle.tree_log.specs.Admits.{AreAdmitted};
-ghost use Rattle.tree_log.specs.Blanking.{blanked, is_homed, is_open_to};
-ghost use Rattle.tree_log.specs.Tree.{tree_of, group_of, children_of, origin_of, home_of};
+ghost use Rattle.tree_log.specs.Blanking.{blanked, is_homed};
+ghost use Rattle.tree_log.specs.Tree.{tree_of, group_of, children_of, origin_of, same_domain};
 ghost use Rattle.tree_log.specs.Urls.{url_of};
 ghost use Rattle.tree_log.specs.declared.entry.Entry.{Entry};
 ghost use Rattle.window_props.specs.History.{Store};
@@ -84,7 +77,7 @@ pub fn accesses_on_blanked_logs()
     ensures location { (kept : ℕ → Bool) (log : List Entry) (asker d : ℕ) → kept asker ≡ true → kept d ≡ true →
         location (tree_of (blanked kept log)) (url_of (blanked kept log)) asker d ≡ location (tree_of log) (url_of log) asker d }
     ensures foreign { (kept : ℕ → Bool) (log : List Entry) (asker d : ℕ) (props : Store) (key : Key) →
-        is_same_origin_domain (origin_of (tree_of log) asker) (origin_of (tree_of log) d) ≡ false →
+        same_domain (tree_of log) asker d ≡ false →
         got (location (tree_of (blanked kept log)) (url_of (blanked kept log)) asker d) props key
         ≡ got (location (tree_of log) (url_of log) asker d) props key }
 {}
@@ -103,7 +96,7 @@ pub fn steps_on_blanked_logs()
         perform (sight_of (blanked kept log) registers others) d s ≡ perform (sight_of log registers stores) d s }
     ensures changed { (kept : ℕ → Bool) (log : List Entry) (registers : ℕ → List ℕ → Value) (stores others : Object → Store) (d : ℕ) (s : Step) →
         AgreeOn kept stores others →
-        AgreeOn kept (changed (sight_of (blanked kept log) registers others) d s) (changed (sight_of log registers stores) d s) }
+        AgreeOn kept (step_stores (sight_of (blanked kept log) registers others) d s) (step_stores (sight_of log registers stores) d s) }
 {}
 
 /// Where no window of the tree leads out of its group, and registers and properties hold objects of their documents' groups
@@ -115,7 +108,7 @@ pub fn steps_stay_in_their_group()
         perform (sight_of log registers stores) d s ≡ Answer (outcome.Value v) → Belongs (tree_of log) d v }
     ensures properties { (log : List Entry) (registers : ℕ → List ℕ → Value) (stores : Object → Store) (d : ℕ) (s : Step) →
         IsClosed (tree_of log) → d < (tree_of log).docs → RegistersBelong (tree_of log) registers → StoresBelong (tree_of log) stores →
-        StoresBelong (tree_of log) (changed (sight_of log registers stores) d s) }
+        StoresBelong (tree_of log) (step_stores (sight_of log registers stores) d s) }
     ensures registers_later { (more log : List Entry) (registers : ℕ → List ℕ → Value) → AreAdmitted (more ++ log) →
         RegistersBelong (tree_of log) registers → RegistersBelong (tree_of (more ++ log)) registers }
     ensures exchange { (rules : Rules) (log : List Entry) (r : ℕ) (q : Request) → AreAdmitted log → length log < 2 ^ 30 → IsClosed (tree_of log) →
@@ -126,85 +119,8 @@ pub fn steps_stay_in_their_group()
         StoresBelong (tree_of log) stores → StoresBelong (tree_of (more ++ log)) stores }
 {}
 
-/// Each message of an admitted log is for a document that is there by then, and documents keep their homes. Whatever is asked,
-/// and whatever renderer is lost, that stays so.
-pub fn documents_keep_their_homes()
-    ensures admitted { (log : List Entry) → AreAdmitted log → HomesStay log }
-    ensures exchange { (rules : Rules) (log : List Entry) (r : ℕ) (q : Request) → HomesStay log → HomesStay ((exchange rules log r q).entries ++ log) }
-    ensures loss { (log : List Entry) (r : ℕ) → HomesStay log → HomesStay (lost_entry r ∷ log) }
-{}
-
-/// Twin logs for a renderer have one tree, and it is told the same of both. Alike requests of any renderer on them have one
-/// outcome, and leave twin logs, where documents keep their homes.
-pub fn twin_logs()
-    ensures tree { (r : ℕ) (left right : List Entry) → TwinLogs r left right → tree_of left ≡ tree_of right }
-    ensures told { (r : ℕ) (left right : List Entry) → TwinLogs r left right → told r left ≡ told r right }
-    ensures exchange { (rules : Rules) (left right : List Entry) (r x : ℕ) (q other : Request) →
-        TwinLogs r left right → HomesStay left → IsAlike rules left right r x q other →
-        ((exchange rules left x q).outcome ≡ (exchange rules right x other).outcome)
-        × TwinLogs r ((exchange rules left x q).entries ++ left) ((exchange rules right x other).entries ++ right) }
-{}
-
-/// Whatever the renderers do that differs only in what one of them isn't told, the replies to this one are the same: on twin
-/// logs whose documents keep their homes, and so in two sessions whose start windows it can't tell apart.
-pub fn two_runs()
-    ensures logs { (rules : Rules) (r : ℕ) (events others : List Event) (left right : List Entry) (heard : ℕ) →
-        AreAlike rules r events others left right → TwinLogs r left right → HomesStay left →
-        replies rules r events (record { log = left; heard = heard }) ≡ replies rules r others (record { log = right; heard = heard }) }
-    ensures starts { (s other : Session) (r : ℕ) → rules_of s ≡ rules_of other →
-        AreAlikeStarts (rules_of s) r [] s.start other.start → TwinLogs r (starts_of s) (starts_of other) }
-    ensures sessions { (s other : Session) (r : ℕ) (events others : List Event) → rules_of s ≡ rules_of other →
-        AreAlikeStarts (rules_of s) r [] s.start other.start →
-        AreAlike (rules_of s) r events others (starts_of s) (starts_of other) →
-        replies (rules_of s) r events (record { log = starts_of s; heard = 0 })
-        ≡ replies (rules_of other) r others (record { log = starts_of other; heard = 0 }) }
-{}
-
-/// In a legal log that no initial document acts in, documents of one group that are same origin-domain have one home.
-pub fn open_documents_have_one_home()
-    ensures { (s : Session) (log : List Entry) → IsLegalLog s log → length log < 2 ^ 30 → ActorsLoaded log →
-        (x y : ℕ) → x < (tree_of log).docs → y < (tree_of log).docs → is_open_to (tree_of log) x y ≡ true →
-        home_of (tree_of log) x ≡ home_of (tree_of log) y }
-{}
-
 /// A record that is legal against a log is legal against a longer one, where no further entry is the renderer's or its loss.
 pub fn records_on_longer_logs()
     ensures { (s : Session) (r : ℕ) (more log : List Entry) (acts : List Act) → IsLegalRecord s r log acts → about r more ≡ [] →
         IsLegalRecord s r (more ++ log) acts }
-{}
-
-/// What a renderer is told of an admitted log, entry by entry, is the log blanked for the documents that are homed there in
-/// the end. To blank for more documents first changes nothing. So in a legal log that no initial document acts in, a document
-/// sees of what its renderer is told all that it sees of the log.
-pub fn what_is_told()
-    ensures at_once { (r : ℕ) (log : List Entry) → AreAdmitted log → blanked (is_homed (tree_of log) r) log ≡ told r log }
-    ensures twice { (kept more : ℕ → Bool) (log : List Entry) → AreAdmitted log →
-        ((d : ℕ) → d < (tree_of log).docs → kept d ≡ true → more d ≡ true) → blanked kept (blanked more log) ≡ blanked kept log }
-    ensures seen { (s : Session) (log : List Entry) → IsLegalLog s log → length log < 2 ^ 30 → ActorsLoaded log →
-        (asker : ℕ) → asker < (tree_of log).docs →
-        shown_to asker (told (home_of (tree_of log) asker) log) ≡ shown_to asker log }
-{}
-
-/// The log of a play is longer than a log may be by the losses of renderers alone, of which each has at most one. Each of its
-/// entries could follow those before it, and no window leads out of its group. Where each page has an http or https URL, only
-/// loaded documents act, since an initial one runs no script and no handler. So documents of one group that are same
-/// origin-domain have one home, and a document sees of what its renderer is told all that it sees of the log.
-pub fn played_logs()
-    ensures short { (s : Session) (turns : List Turned) → ArePlayed s turns → length s.start ≤ most_entries →
-        length (log_of s turns) ≤ most_entries + s.renderers }
-    ensures admitted { (s : Session) (turns : List Turned) → ArePlayed s turns → length s.start ≤ most_entries → s.renderers ≤ most_entries →
-        AreAdmitted (log_of s turns) }
-    ensures actors { (s : Session) (turns : List Turned) → ArePlayed s turns → length s.start ≤ most_entries → s.renderers ≤ most_entries →
-        HasWebPages s → ActorsLoaded (log_of s turns) }
-    ensures closed { (s : Session) (turns : List Turned) → ArePlayed s turns → length s.start ≤ most_entries → s.renderers ≤ most_entries →
-        IsClosed (tree_of (log_of s turns)) }
-    ensures homes { (s : Session) (turns : List Turned) → ArePlayed s turns → length s.start ≤ most_entries → s.renderers ≤ most_entries →
-        HasWebPages s →
-        (x y : ℕ) → x < (tree_of (log_of s turns)).docs → y < (tree_of (log_of s turns)).docs →
-        is_open_to (tree_of (log_of s turns)) x y ≡ true →
-        home_of (tree_of (log_of s turns)) x ≡ home_of (tree_of (log_of s turns)) y }
-    ensures seen { (s : Session) (turns : List Turned) → ArePlayed s turns → length s.start ≤ most_entries → s.renderers ≤ most_entries →
-        HasWebPages s →
-        (asker : ℕ) → asker < (tree_of (log_of s turns)).docs →
-        shown_to asker (told (home_of (tree_of (log_of s turns)) asker) (log_of s turns)) ≡ shown_to asker (log_of s turns) }
 {}

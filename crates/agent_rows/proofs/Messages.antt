@@ -5,10 +5,10 @@ use Rattle.plain_data.specs.declared.data.Data.{Data, the_lemmas}
 use Rattle.plain_data.specs.declared.data.Data.TheVariants as data'
 use Rattle.window_props.specs.declared.value.Value.TheVariants as value
 use Rattle.tree_log.specs.declared.entry.Target.TheVariants as target
-use Rattle.single_agent.specs.declared.outcome.Outcome.TheVariants as outcome
-use Rattle.single_agent.specs.declared.outcome.Ask.TheVariants as ask
-use Rattle.single_agent.specs.Values.{null, text, truth, text_of}
-use Rattle.single_agent.specs.Methods.{target_text, target_of, posted}
+use Rattle.agent_terms.specs.declared.outcome.Outcome.TheVariants as outcome
+use Rattle.agent_terms.specs.declared.outcome.Ask.TheVariants as ask
+use Rattle.object_access.specs.Values.{null, text, truth, text_of}
+use Rattle.object_access.specs.Methods.{target_text, target_of, posted}
 use Rattle.agent_rows.specs.Logs.{a_test}
 
 -- THE TEXT OF THE TARGET

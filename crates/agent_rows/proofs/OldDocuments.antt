@@ -13,17 +13,17 @@ use Rattle.tree_log.specs.declared.entry.What.TheVariants as what
 use Rattle.tree_log.specs.Tree.{tree_of, is_active, is_discarded, chain, children_of}
 use Rattle.tree_log.specs.NamedChildren.{child_named}
 use Rattle.tree_log.specs.Urls.{url_of}
-use Rattle.single_agent.specs.declared.outcome.Outcome.{Outcome}
-use Rattle.single_agent.specs.declared.outcome.Outcome.TheVariants as outcome
-use Rattle.single_agent.specs.declared.outcome.Ask.TheVariants as wish
-use Rattle.single_agent.specs.declared.request.Request.TheVariants as ask
-use Rattle.single_agent.specs.declared.request.ReplyOutcome.TheVariants as reply
-use Rattle.single_agent.specs.Values.{text, text_of}
-use Rattle.single_agent.specs.Access.{set, foreign_property}
-use Rattle.single_agent.specs.Going.{go}
-use Rattle.single_agent.specs.WindowAccess.{window, window_of, window_value, window_set}
-use Rattle.single_agent.specs.StepAnswer.{first_stores}
-use Rattle.single_agent.specs.Decision.{one}
+use Rattle.agent_terms.specs.declared.outcome.Outcome.{Outcome}
+use Rattle.agent_terms.specs.declared.outcome.Outcome.TheVariants as outcome
+use Rattle.agent_terms.specs.declared.outcome.Ask.TheVariants as wish
+use Rattle.agent_terms.specs.declared.request.Request.TheVariants as ask
+use Rattle.agent_terms.specs.declared.request.ReplyOutcome.TheVariants as reply
+use Rattle.object_access.specs.Values.{text, text_of}
+use Rattle.object_access.specs.Access.{set, foreign_property}
+use Rattle.object_access.specs.Going.{go}
+use Rattle.object_access.specs.WindowAccess.{window, window_of, window_value, window_set}
+use Rattle.object_access.specs.StepAnswer.{first_stores}
+use Rattle.coordinator_rules.specs.Decision.{one}
 use Rattle.agent_rows.specs.Logs.{started, frame, framed}
 use Rattle.agent_rows.specs.Coordinator.{answered}
 

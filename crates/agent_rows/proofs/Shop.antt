@@ -10,24 +10,24 @@ use Rattle.tree_log.specs.Log.{entry_at}
 use Rattle.tree_log.specs.Homes.{home_for}
 use Rattle.tree_log.specs.Tree.{tree_of, is_active, is_discarded, chain, children_of, parent_of, top_level_of, ancestors, group_of}
 use Rattle.origin_core.specs.declared.origin.Origin.TheVariants.{Opaque}
-use Rattle.single_agent.specs.declared.request.Request.{Request}
-use Rattle.single_agent.specs.declared.request.Request.TheVariants as ask
-use Rattle.single_agent.specs.declared.request.ReplyOutcome.TheVariants as reply
+use Rattle.agent_terms.specs.declared.request.Request.{Request}
+use Rattle.agent_terms.specs.declared.request.Request.TheVariants as ask
+use Rattle.agent_terms.specs.declared.request.ReplyOutcome.TheVariants as reply
 use Rattle.single_agent.specs.LegalLog.{IsLegalLog, Started, Exchanged}
-use Rattle.single_agent.specs.Navigation.{choice, walk_from, familiar_through, may_navigate, may_close}
-use Rattle.single_agent.specs.NextTask.{next_task, task_entry}
-use Rattle.single_agent.specs.Registers.{unset, written, task_written}
+use Rattle.coordinator_rules.specs.Navigation.{choice, walk_from, familiar_through, may_navigate, may_close}
+use Rattle.coordinator_rules.specs.NextTask.{next_task, task_entry}
+use Rattle.object_access.specs.Registers.{unset, written, task_written}
 use Rattle.single_agent.specs.Session.{starts_of}
-use Rattle.single_agent.specs.Values.{text}
+use Rattle.object_access.specs.Values.{text}
 use Rattle.window_props.specs.declared.value.Value.{Value}
 use Rattle.window_props.specs.declared.value.Value.TheVariants as value
-use Rattle.single_agent.specs.Decision.{Decision, one, decide, exchange, asked, is_fragment, rules_of}
+use Rattle.coordinator_rules.specs.Decision.{Decision, one, decide, exchange, asked_decision, is_fragment, rules_of}
 use Rattle.agent_rows.specs.Logs.{load}
 use Rattle.agent_rows.specs.Shop.{shop, shop_log, pay_url, ads_url, login_url, shop_test, pay_test, login_test, token, opened_shop, with_shop, framed_pay, with_pay, framed_ads, with_ads, opened_login, with_login, posted_token, with_token, with_refusal, closing_login}
 
 -- what a request of renderer r comes to
 unfoldable pub answered : List Entry → ℕ → Request → Decision
-unfolding exchange asked decide is_fragment next_task choice walk_from familiar_through may_navigate may_close home_for tree_of is_active is_discarded chain children_of parent_of top_level_of ancestors group_of url_on_literals
+unfolding exchange asked_decision decide is_fragment next_task choice walk_from familiar_through may_navigate may_close home_for tree_of is_active is_discarded chain children_of parent_of top_level_of ancestors group_of url_on_literals
 answered log r request = exchange (rules_of shop) log r request
 
 -- a task that renderer r takes

@@ -1,22 +1,24 @@
 -- What a document is shown of the log and of the properties: nothing of documents of other origins that scripts could not read.
-use Rattle.std.specs.Prelude.{◌≡◌, refl, List, ◌∷◌, [], codes, Some}
+use Rattle.std.specs.Prelude.{◌≡◌, refl, ℕ, List, ◌∷◌, [], false, codes, Some}
 use Rattle.origin_core.specs.Origin.{blank_text}
-use Rattle.origin_core.specs.declared.origin.Origin.TheVariants.{Opaque}
+use Rattle.origin_core.specs.declared.origin.Origin.{Origin}
+use Rattle.origin_core.specs.declared.origin.Origin.TheVariants.{Tuple, Opaque}
+use Rattle.origin_core.specs.declared.origin.Scheme.TheVariants.{Https}
 use Rattle.plain_data.specs.declared.data.Data.TheVariants as data'
 use Rattle.tree_log.specs.declared.entry.Entry.{Entry}
 use Rattle.tree_log.specs.declared.entry.Target.TheVariants as target
 use Rattle.tree_log.specs.declared.entry.What.TheVariants as what
 use Rattle.tree_log.specs.Admits.{admits, AreAdmitted}
 use Rattle.tree_log.specs.Tree.{tree_of, chain, group_of, is_active, is_discarded}
-use Rattle.tree_log.specs.Blanking.{hidden}
+use Rattle.tree_log.specs.Blanking.{hidden, blank, is_kept}
 use Rattle.tree_log.specs.Urls.{url_of}
 use Rattle.window_props.specs.declared.platform.Object.{Object}
 use Rattle.window_props.specs.declared.platform.Object.TheVariants as object
 use Rattle.window_props.specs.History.{Store}
-use Rattle.single_agent.specs.NextTask.{task_entry}
-use Rattle.single_agent.specs.StepAnswer.{first_stores}
-use Rattle.single_agent.specs.NextAct.{shown_to, shown_stores}
-use Rattle.single_agent.specs.Decision.{by}
+use Rattle.coordinator_rules.specs.NextTask.{task_entry}
+use Rattle.object_access.specs.StepAnswer.{first_stores}
+use Rattle.single_agent.specs.Shown.{shown_to, shown_stores}
+use Rattle.coordinator_rules.specs.Decision.{by}
 use Rattle.agent_rows.specs.Logs.{a_test, b_test, load, start, started, framed, started_admitted, framed_admitted}
 
 -- URLS
@@ -76,6 +78,35 @@ message_hidden = refl
 pub message_shown : shown_to 3 (message ∷ framed) ≡ message ∷ shown_to 3 framed
 unfolding tree_of chain group_of
 message_shown = refl
+
+-- A LIST OF DOCUMENTS
+
+-- one who sees d3 alone is not told of the message that d3's renderer sent to d1; one who sees d0 and d1 is
+abbrev pub answer : Entry
+answer = by 1 3 (what.Post 1 1 (Opaque 3) target.Any (data'.Text (codes "m")))
+
+pub answer_hidden : blank (is_kept (3 ∷ [])) answer ≡ hidden
+answer_hidden = refl
+
+pub answer_shown : blank (is_kept (0 ∷ 1 ∷ [])) answer ≡ answer
+answer_shown = refl
+
+-- nor where d4 is loaded from, but for its origin
+abbrev pub c_test : Origin
+c_test = Tuple (record { scheme = Https; host = codes "c.test"; ip = false; port = Some 8443 })
+
+abbrev pub begins : List ℕ → Entry
+begins url = by 1 3 (what.Begin 1 (load 4 0 c_test url))
+
+pub load_hidden : blank (is_kept (3 ∷ [])) (begins (codes "https://c.test:8443/secret?q#f")) ≡ begins (blank_text c_test)
+load_hidden = refl
+
+pub load_shown : blank (is_kept (4 ∷ [])) (begins (codes "https://c.test:8443/secret?q#f")) ≡ begins (codes "https://c.test:8443/secret?q#f")
+load_shown = refl
+
+-- nor to which fragment d3 moved
+pub fragment_hidden : blank (is_kept (1 ∷ [])) (by 1 3 (what.Fragment 1 3 (codes "https://b.test/x#secret"))) ≡ by 1 3 (what.Fragment 1 3 (codes "about:blank"))
+fragment_hidden = refl
 
 -- PROPERTIES
 

@@ -11,18 +11,18 @@ use Rattle.tree_log.specs.declared.entry.What.TheVariants as what
 use Rattle.tree_log.specs.Tree.{tree_of, is_active, is_discarded, chain, children_of, top_level_of, ancestors, group_of}
 use Rattle.tree_log.specs.Admits.{admits, AreAdmitted}
 use Rattle.tree_log.specs.Homes.{home_for}
-use Rattle.single_agent.specs.declared.request.Request.{Request}
-use Rattle.single_agent.specs.declared.request.Request.TheVariants as ask
-use Rattle.single_agent.specs.declared.request.ReplyOutcome.{ReplyOutcome}
-use Rattle.single_agent.specs.declared.request.ReplyOutcome.TheVariants as reply
-use Rattle.single_agent.specs.Navigation.{choice, walk_from, familiar_through, may_navigate}
-use Rattle.single_agent.specs.NextTask.{next_task, task_entry}
-use Rattle.single_agent.specs.Decision.{Decision, one, decide, exchange, asked, end_of, is_fragment}
+use Rattle.agent_terms.specs.declared.request.Request.{Request}
+use Rattle.agent_terms.specs.declared.request.Request.TheVariants as ask
+use Rattle.agent_terms.specs.declared.request.ReplyOutcome.{ReplyOutcome}
+use Rattle.agent_terms.specs.declared.request.ReplyOutcome.TheVariants as reply
+use Rattle.coordinator_rules.specs.Navigation.{choice, walk_from, familiar_through, may_navigate}
+use Rattle.coordinator_rules.specs.NextTask.{next_task, task_entry}
+use Rattle.coordinator_rules.specs.Decision.{Decision, one, decide, exchange, asked_decision, end_of, is_fragment}
 use Rattle.agent_rows.specs.Logs.{site, a_test, b_test, load, start, started, frame, framed, rules}
 
 -- what a request of renderer r comes to
 unfoldable pub answered : List Entry → ℕ → Request → Decision
-unfolding exchange asked decide end_of is_fragment next_task choice walk_from familiar_through may_navigate tree_of is_active is_discarded chain children_of top_level_of ancestors group_of
+unfolding exchange asked_decision decide end_of is_fragment next_task choice walk_from familiar_through may_navigate tree_of is_active is_discarded chain children_of top_level_of ancestors group_of
 answered log r request = exchange rules log r request
 
 -- no entry, and this outcome

@@ -14,14 +14,14 @@ use Rattle.tree_log.specs.Tree.{tree_of, is_active, is_discarded, chain, childre
 use Rattle.tree_log.specs.Admits.{admits, AreAdmitted}
 use Rattle.tree_log.specs.NamedChildren.{child_named}
 use Rattle.tree_log.specs.Urls.{url_of}
-use Rattle.single_agent.specs.declared.outcome.Outcome.{Outcome}
-use Rattle.single_agent.specs.declared.outcome.Outcome.TheVariants as outcome
-use Rattle.single_agent.specs.declared.outcome.Rule.TheVariants.{S1, S2}
-use Rattle.single_agent.specs.Values.{undefined, null, truth, text, whole}
-use Rattle.single_agent.specs.Access.{Seen, got, own_property, foreign_property, keys, index_keys, index_key}
-use Rattle.single_agent.specs.WindowAccess.{window, window_of, window_value}
-use Rattle.single_agent.specs.StepAnswer.{first_stores}
-use Rattle.single_agent.specs.Decision.{by}
+use Rattle.agent_terms.specs.declared.outcome.Outcome.{Outcome}
+use Rattle.agent_terms.specs.declared.outcome.Outcome.TheVariants as outcome
+use Rattle.agent_terms.specs.declared.outcome.Rule.TheVariants.{S1, S2}
+use Rattle.object_access.specs.Values.{undefined, null, truth, text, whole}
+use Rattle.object_access.specs.Access.{Seen, got, own_property, foreign_property, keys, index_keys, index_key}
+use Rattle.object_access.specs.WindowAccess.{window, window_of, window_value}
+use Rattle.object_access.specs.StepAnswer.{first_stores}
+use Rattle.coordinator_rules.specs.Decision.{by}
 use Rattle.agent_rows.specs.Logs.{b_test, framed, framed_admitted}
 
 -- the window of navigable n, as d1 meets it

@@ -6,6 +6,10 @@ pub mod Navigating
 pub mod Coordinator
 pub mod Blanking
 pub mod Trees
+pub mod Growing
+pub mod Made
+pub mod Refused
+pub mod Symbols
 pub mod Tasks
 pub mod Shop
 pub mod Losses

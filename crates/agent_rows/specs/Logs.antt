@@ -9,8 +9,8 @@ use Rattle.tree_log.specs.declared.entry.Load.{Load}
 use Rattle.tree_log.specs.declared.entry.What.TheVariants.{Open, Frame, Commit}
 use Rattle.tree_log.specs.Admits.{admits, AreAdmitted}
 use Rattle.tree_log.specs.Tree.{tree_of, is_active, is_discarded, chain}
-use Rattle.single_agent.specs.NextTask.{task_entry}
-use Rattle.single_agent.specs.Decision.{Rules, by}
+use Rattle.coordinator_rules.specs.NextTask.{task_entry}
+use Rattle.coordinator_rules.specs.Decision.{Rules, by}
 
 abbrev pub site : List ℕ → Origin
 site host = Tuple (record { scheme = Https; host = host; ip = false; port = None })

@@ -3,17 +3,19 @@ use Rattle.std.specs.Prelude.{◌≡◌, refl, ℕ, List, [], ◌∷◌, Bool, t
 use Rattle.tree_log.specs.declared.entry.Entry.{Entry}
 use Rattle.tree_log.specs.declared.entry.What.TheVariants as what
 use Rattle.tree_log.specs.Tree.{tree_of, is_active, is_discarded, chain}
-use Rattle.single_agent.specs.declared.act.Act.{Act}
-use Rattle.single_agent.specs.declared.act.Act.TheVariants.{Task, LostTask}
-use Rattle.single_agent.specs.declared.act.Move.TheVariants.{Takes, Stays}
-use Rattle.single_agent.specs.declared.act.TaskKind.TheVariants as kind
-use Rattle.single_agent.specs.declared.session.Session.{Session}
+use Rattle.agent_terms.specs.declared.act.Act.{Act}
+use Rattle.agent_terms.specs.declared.act.Act.TheVariants.{Task, LostTask}
+use Rattle.agent_terms.specs.declared.act.Move.TheVariants.{Takes, Stays}
+use Rattle.agent_terms.specs.declared.act.TaskKind.TheVariants as kind
+use Rattle.agent_terms.specs.declared.session.Session.{Session}
 use Rattle.tree_log.specs.Log.{entry_at, prefix}
 use Rattle.single_agent.specs.Session.{steps_of, steps_at}
 use Rattle.single_agent.specs.LegalLog.{lost_entry}
-use Rattle.single_agent.specs.NextTask.{next_task, task_entry}
-use Rattle.single_agent.specs.NextAct.{next_move, lost_act, running, step_left}
-use Rattle.single_agent.specs.Decision.{exchange}
+use Rattle.coordinator_rules.specs.NextTask.{next_task, task_entry}
+use Rattle.single_agent.specs.NextMove.{next_move}
+use Rattle.single_agent.specs.LostAct.{lost_act}
+use Rattle.single_agent.specs.Running.{running, step_left}
+use Rattle.coordinator_rules.specs.Decision.{exchange}
 use Rattle.single_agent.specs.Turns.{calls_of, is_losing, lost_entries}
 use Rattle.agent_rows.specs.Logs.{frame, started, framed}
 

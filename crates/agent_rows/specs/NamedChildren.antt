@@ -5,10 +5,10 @@ use Rattle.tree_log.specs.declared.entry.What.TheVariants.{Frame, Begin, Commit,
 use Rattle.tree_log.specs.Tree.{tree_of, is_active, is_discarded, chain, children_of}
 use Rattle.tree_log.specs.Admits.{admits, AreAdmitted}
 use Rattle.tree_log.specs.NamedChildren.{child_named}
-use Rattle.single_agent.specs.declared.outcome.Outcome.TheVariants as outcome
-use Rattle.single_agent.specs.Values.{undefined}
-use Rattle.single_agent.specs.NextTask.{task_entry}
-use Rattle.single_agent.specs.Decision.{by}
+use Rattle.agent_terms.specs.declared.outcome.Outcome.TheVariants as outcome
+use Rattle.object_access.specs.Values.{undefined}
+use Rattle.coordinator_rules.specs.NextTask.{task_entry}
+use Rattle.coordinator_rules.specs.Decision.{by}
 use Rattle.window_props.specs.declared.value.Value.TheVariants as value
 use Rattle.agent_rows.specs.Logs.{a_test, load, framed, framed_admitted}
 use Rattle.agent_rows.specs.ForeignWindow.{got_at}

@@ -6,14 +6,15 @@ use Rattle.tree_log.specs.declared.entry.Load.{Load}
 use Rattle.tree_log.specs.declared.entry.What.TheVariants as what
 use Rattle.tree_log.specs.Tree.{tree_of, is_active, is_discarded, chain, children_of, parent_of, top_level_of, ancestors, group_of}
 use Rattle.tree_log.specs.Admits.{admits, AreAdmitted}
-use Rattle.single_agent.specs.declared.request.Request.TheVariants as ask
-use Rattle.single_agent.specs.declared.request.ReplyOutcome.TheVariants as reply
-use Rattle.single_agent.specs.Navigation.{Choice, Existing, New, Nothing, choice, walk_from, familiar_through, may_navigate, may_close}
-use Rattle.single_agent.specs.declared.session.Session.{Session}
-use Rattle.single_agent.specs.declared.act.Move.TheVariants.{Takes}
-use Rattle.single_agent.specs.NextAct.{next_move, step_left, running}
-use Rattle.single_agent.specs.NextTask.{next_task, task_entry}
-use Rattle.single_agent.specs.Decision.{Decision, one, by, decide}
+use Rattle.agent_terms.specs.declared.request.Request.TheVariants as ask
+use Rattle.agent_terms.specs.declared.request.ReplyOutcome.TheVariants as reply
+use Rattle.coordinator_rules.specs.Navigation.{Choice, Existing, New, Nothing, choice, walk_from, familiar_through, may_navigate, may_close}
+use Rattle.agent_terms.specs.declared.session.Session.{Session}
+use Rattle.agent_terms.specs.declared.act.Move.TheVariants.{Takes}
+use Rattle.single_agent.specs.NextMove.{next_move}
+use Rattle.single_agent.specs.Running.{step_left, running}
+use Rattle.coordinator_rules.specs.NextTask.{next_task, task_entry}
+use Rattle.coordinator_rules.specs.Decision.{Decision, one, by, decide}
 use Rattle.agent_rows.specs.Logs.{a_test, b_test, load, started, frame, framed, rules, started_admitted}
 
 -- CHOOSING BY A NAME

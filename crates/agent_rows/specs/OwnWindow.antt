@@ -3,8 +3,8 @@ use Rattle.std.specs.Prelude.{◌≡◌, refl, false, codes}
 use Rattle.window_props.specs.declared.value.Value.TheVariants as value
 use Rattle.window_props.specs.declared.value.Method.TheVariants as method
 use Rattle.window_props.specs.declared.platform.Object.TheVariants as object
-use Rattle.single_agent.specs.declared.outcome.Outcome.TheVariants as outcome
-use Rattle.single_agent.specs.Values.{undefined, truth, text}
+use Rattle.agent_terms.specs.declared.outcome.Outcome.TheVariants as outcome
+use Rattle.object_access.specs.Values.{undefined, truth, text}
 use Rattle.agent_rows.specs.Logs.{framed}
 use Rattle.agent_rows.specs.ForeignWindow.{got_at}
 

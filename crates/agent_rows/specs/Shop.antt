@@ -7,10 +7,10 @@ use Rattle.plain_data.specs.declared.data.Data.TheVariants as data'
 use Rattle.tree_log.specs.declared.entry.Entry.{Entry}
 use Rattle.tree_log.specs.declared.entry.Target.TheVariants as targets
 use Rattle.tree_log.specs.declared.entry.What.TheVariants as what
-use Rattle.single_agent.specs.declared.session.Page.{Page}
-use Rattle.single_agent.specs.declared.session.Session.{Session}
-use Rattle.single_agent.specs.NextTask.{task_entry}
-use Rattle.single_agent.specs.Decision.{by}
+use Rattle.agent_terms.specs.declared.session.Page.{Page}
+use Rattle.agent_terms.specs.declared.session.Session.{Session}
+use Rattle.coordinator_rules.specs.NextTask.{task_entry}
+use Rattle.coordinator_rules.specs.Decision.{by}
 use Rattle.agent_rows.specs.Logs.{site, load, start}
 
 -- THE SESSION

@@ -11,15 +11,15 @@ use Rattle.tree_log.specs.Log.{entry_at, prefix}
 use Rattle.tree_log.specs.Tree.{tree_of, is_active, is_discarded, chain}
 use Rattle.window_props.specs.declared.value.Value.{Value}
 use Rattle.window_props.specs.declared.value.Value.TheVariants as value
-use Rattle.single_agent.specs.declared.act.Act.{Act}
-use Rattle.single_agent.specs.declared.act.Act.TheVariants.{Task}
-use Rattle.single_agent.specs.declared.act.TaskKind.TheVariants as kind
-use Rattle.single_agent.specs.declared.session.Session.{Session}
-use Rattle.single_agent.specs.Values.{text}
-use Rattle.single_agent.specs.Registers.{unset, written, task_written}
-use Rattle.single_agent.specs.NextAct.{registers}
-use Rattle.single_agent.specs.NextTask.{next_task, task_entry}
-use Rattle.single_agent.specs.Decision.{by}
+use Rattle.agent_terms.specs.declared.act.Act.{Act}
+use Rattle.agent_terms.specs.declared.act.Act.TheVariants.{Task}
+use Rattle.agent_terms.specs.declared.act.TaskKind.TheVariants as kind
+use Rattle.agent_terms.specs.declared.session.Session.{Session}
+use Rattle.object_access.specs.Values.{text}
+use Rattle.object_access.specs.Registers.{unset, written, task_written}
+use Rattle.single_agent.specs.Sights.{registers}
+use Rattle.coordinator_rules.specs.NextTask.{next_task, task_entry}
+use Rattle.coordinator_rules.specs.Decision.{by}
 use Rattle.agent_rows.specs.Logs.{a_test, b_test, load, started, frame, framed, framed_admitted}
 use Rattle.agent_rows.specs.Coordinator.{hello}
 use Rattle.agent_rows.specs.Navigating.{two_windows, two_windows_admitted}

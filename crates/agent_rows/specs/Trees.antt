@@ -3,6 +3,9 @@ use Rattle.std.specs.Prelude.{◌≡◌, refl, [], ◌∷◌, Some, None, false,
 use Rattle.tree_log.specs.Tree.{tree_of, is_active, is_discarded, parent_of, children_of, group_of, chain}
 use Rattle.tree_log.specs.NamedChildren.{child_named}
 use Rattle.tree_log.specs.Blanking.{homed_at}
+use Rattle.tree_log.specs.Log.{entry_at}
+use Rattle.tree_log.specs.declared.entry.What.TheVariants.{Commit}
+use Rattle.coordinator_rules.specs.NextTask.{task_entry}
 use Rattle.agent_rows.specs.Logs.{framed}
 use Rattle.agent_rows.specs.ForeignWindow.{taken_out}
 
@@ -46,7 +49,24 @@ pub still_shown : ((tree_of taken_out).nav 1).active ≡ 3
 unfolding tree_of
 still_shown = refl
 
--- renderer 1 is the home of document 3 alone
+-- renderer 0 is the home of the window's documents and of the frame's initial one, renderer 1 of the frame's page, renderer 2 of none
+pub homed_at_window : homed_at (tree_of framed) 0 ≡ 0 ∷ 1 ∷ 2 ∷ []
+unfolding tree_of
+homed_at_window = refl
+
 pub homed_there : homed_at (tree_of framed) 1 ≡ 3 ∷ []
 unfolding tree_of
 homed_there = refl
+
+pub homed_nowhere : homed_at (tree_of framed) 2 ≡ []
+unfolding tree_of
+homed_nowhere = refl
+
+-- the log has four entries: the newest stands at the place 3, and none at 4
+pub newest_entry : entry_at framed 3 ≡ Some (task_entry 1 (Commit 1 3 2))
+unfolding entry_at
+newest_entry = refl
+
+pub no_entry : entry_at framed 4 ≡ None
+unfolding entry_at
+no_entry = refl

@@ -1,5 +1,5 @@
 -- Accesses on a blanked log.
-use Rattle.agent_laws.proofs.BlankedAccess.{window-blanked, location-blanked, foreign_got-blanked}
+use Rattle.agent_laws.proofs.Blanked.BlankedAccess.{window-blanked, location-blanked, foreign_got-blanked}
 use Rattle.agent_laws.proofs.laws.accesses_on_blanked_logs.Goals as goal
 
 pub returns-clause-window : goal.returns-clause-window

@@ -1,5 +1,5 @@
 -- What is decided on a blanked log.
-use Rattle.agent_laws.proofs.BlankedExchanges.{outcome-blanked, next_task-blanked}
+use Rattle.agent_laws.proofs.Blanked.BlankedExchanges.{outcome-blanked, next_task-blanked}
 use Rattle.agent_laws.proofs.laws.exchanges_on_blanked_logs.Goals as goal
 
 pub returns-clause-outcome : goal.returns-clause-outcome

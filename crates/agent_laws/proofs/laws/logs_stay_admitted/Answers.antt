@@ -1,5 +1,5 @@
 -- Logs stay admitted.
-use Rattle.agent_laws.proofs.Admitted.{exchange_admitted, legal_admitted}
+use Rattle.agent_laws.proofs.Logs.Admitted.{exchange_admitted, legal_admitted}
 use Rattle.agent_laws.proofs.laws.logs_stay_admitted.Goals as goal
 
 pub returns-clause-exchange : goal.returns-clause-exchange

@@ -1,5 +1,5 @@
 -- Steps on a blanked log.
-use Rattle.agent_laws.proofs.KeptStores.{perform-blanked, changed-blanked, perform_in_group}
+use Rattle.agent_laws.proofs.Blanked.KeptStores.{perform-blanked, changed-blanked, perform_in_group}
 use Rattle.agent_laws.proofs.laws.steps_on_blanked_logs.Goals as goal
 
 pub returns-clause-performed : goal.returns-clause-performed

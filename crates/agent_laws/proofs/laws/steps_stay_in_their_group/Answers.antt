@@ -1,10 +1,10 @@
 -- What steps reach is of their document's group.
 use Rattle.tree_log.specs.Tree.{tree_of}
 use Rattle.tree_log.specs.Urls.{url_of}
-use Rattle.agent_laws.proofs.Groups.{registers_grown, stores_grown}
-use Rattle.agent_laws.proofs.Closed.{closed_exchange}
-use Rattle.agent_laws.proofs.MadeWindows.{made_belongs}
-use Rattle.agent_laws.proofs.Changed.{answer_belongs, changed_belongs}
+use Rattle.agent_laws.proofs.Groups.Grouped.{registers_grown, stores_grown}
+use Rattle.agent_laws.proofs.Groups.Closed.{closed_exchange}
+use Rattle.agent_laws.proofs.Groups.MadeWindows.{made_belongs}
+use Rattle.agent_laws.proofs.Groups.Changed.{answer_belongs, changed_belongs}
 use Rattle.agent_laws.proofs.laws.steps_stay_in_their_group.Goals as goal
 
 pub returns-clause-answers : goal.returns-clause-answers

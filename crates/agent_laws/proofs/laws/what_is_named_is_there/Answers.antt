@@ -1,6 +1,6 @@
 -- What an admitted log names is there.
-use Rattle.agent_laws.proofs.Well.{admitted_well}
-use Rattle.agent_laws.proofs.Choices.{has_group, children_below, chosen_below}
+use Rattle.agent_laws.proofs.Groups.Well.{admitted_well}
+use Rattle.agent_laws.proofs.Groups.Choices.{has_group, children_below, chosen_below}
 use Rattle.agent_laws.proofs.laws.what_is_named_is_there.Goals as goal
 
 pub returns-clause-tree : goal.returns-clause-tree

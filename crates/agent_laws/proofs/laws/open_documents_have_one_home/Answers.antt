@@ -1,6 +1,0 @@
--- The home of documents that are open to one another.
-use Rattle.agent_laws.proofs.HomeLaw.{open_documents}
-use Rattle.agent_laws.proofs.laws.open_documents_have_one_home.Goals as goal
-
-pub returns : goal.returns
-returns c = open_documents

@@ -1,6 +1,0 @@
--- The order of messages.
-use Rattle.agent_laws.proofs.MessageOrder.{end_in_order}
-use Rattle.agent_laws.proofs.message_laws.messages_fire_in_order.Goals as goal
-
-pub returns : goal.returns
-returns c = end_in_order

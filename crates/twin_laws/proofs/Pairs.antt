@@ -1,0 +1,223 @@
+-- Alike requests on twin logs.
+use Rattle.std.proofs.Common.{◌≡◌, ℕ, ◌+◌, List, [], ◌∷◌, ◌++◌, Option, Some, None, Bool, true, false, refl, ap, ◌∙◌, sym, not, ◌||◌, if◌then◌else◌, inl, inr, subst}
+use Rattle.std.specs.Prelude.{◌==◌, is_none}
+use Rattle.std.proofs.lemmas.Bool.{false≢true}
+use Rattle.std.specs.Option.{option_or}
+use Rattle.plain_data.specs.declared.data.Data.{Data}
+use Rattle.origin_core.specs.declared.origin.Origin.{Origin}
+use Rattle.origin_core.specs.Flags.{has_origin, has_navigation, union}
+use Rattle.origin_core.specs.Origin.{page_origin, frame_origin, window_origin}
+use Rattle.tree_log.specs.declared.entry.Entry.{Entry}
+use Rattle.tree_log.specs.declared.entry.Target.{Target}
+use Rattle.tree_log.specs.declared.entry.What.{What}
+use Rattle.tree_log.specs.declared.entry.What.TheVariants.{Open, Frame, Begin, Fragment, Opener, Post, Sync}
+use Rattle.tree_log.specs.Tree.{Tree, tree_of, tree_after, tree_of_step, home_of, origin_of, nav_of, is_active, is}
+use Rattle.tree_log.specs.Urls.{url_of}
+use Rattle.tree_log.specs.Blanking.{is_homed}
+use Rattle.agent_terms.specs.declared.request.Request.{Request}
+use Rattle.agent_terms.specs.declared.request.ReplyOutcome.{ReplyOutcome}
+use Rattle.agent_terms.specs.declared.request.ReplyOutcome.TheVariants as reply
+use Rattle.coordinator_rules.specs.Navigation.{flags_in, may_navigate, Choice, Existing, New, Nothing, choice}
+use Rattle.coordinator_rules.specs.Decision.{Rules, Decision, decide, exchange, end_of, is_fragment, asker_of, home_if_active, by, one, group_in, load_for, frame_entry, navigation, new_window, window_flags, window_name, unless, made_or_null, open_chosen, link_chosen, opener_entry, is_live, is_near}
+use Rattle.agent_laws.specs.Actors.{is_next}
+use Rattle.twin_laws.specs.Twins.{TwinLogs, HomesStay}
+use Rattle.twin_laws.specs.Alike.{url_home, url_home_in, IsElsewhere, HasSameOrigin, Differs, Message, Gone_to, Linked, Opened, Framed, IsAlike}
+use Rattle.agent_laws.proofs.Logs.Exchanges.{only_next, exchange-asked, asked-decided, not_yours, unloaded}
+use Rattle.twin_laws.proofs.NextTwins.{next_pair}
+use Rattle.twin_laws.proofs.Twins.{Agree, agree_same, agree_at, agree_if, TwinWhat, same_twin, loading_twin, home_of_begin, home_of_open, home_of_frame, fragment_home, tree_of-twin, end_of-twin}
+
+-- THE ENTRIES OF A URL
+
+navigation_twin : (rules : Rules) (left : List Entry) (r x asker n : ℕ) (url other : List ℕ) → HasSameOrigin (tree_of left) asker url other
+    → (fragment : Bool) → IsElsewhere r (url_home (tree_of left) (navigation rules (tree_of left) fragment asker n url))
+    → TwinWhat left r x asker (navigation rules (tree_of left) fragment asker n url) (navigation rules (tree_of left) fragment asker n other)
+navigation_twin rules left r x asker n url other e true h =
+    let d : ℕ = ((tree_of left).nav n).active in
+    let k : is_homed (tree_of (by x asker (Fragment n d url) ∷ left)) r d ≡ false = rw (tree_of_step (by x asker (Fragment n d url)) left) (fragment_home (tree_of left) r x asker n d d url h) in
+    record { same_bare = refl; same_blank = rw k refl }
+navigation_twin rules left r x asker n url other e false h =
+    let t : Tree = tree_of left in
+    loading_twin rules left r x asker (group_in t n) (flags_in t n) t.docs url other (λ z. Begin n z) (λ z. refl) (λ kept z. refl)
+    (home_of_begin t x asker n (load_for rules t (group_in t n) (flags_in t n) t.docs asker url)) e h
+
+window_twin : (rules : Rules) (left : List Entry) (r x asker : ℕ) (url other name : List ℕ) (noopener : Bool) → HasSameOrigin (tree_of left) asker url other
+    → IsElsewhere r (url_home (tree_of left) (new_window rules (tree_of left) asker name noopener (Some url)))
+    → TwinWhat left r x asker (new_window rules (tree_of left) asker name noopener (Some url)) (new_window rules (tree_of left) asker name noopener (Some other))
+window_twin rules left r x asker url other name noopener e h =
+    let t : Tree = tree_of left in
+    let n : ℕ = nav_of t asker in
+    let group : ℕ = if noopener then t.groups else group_in t n in
+    let navigator : Option ℕ = unless (noopener || not (has_navigation (flags_in t n))) n in
+    loading_twin rules left r x asker group (window_flags t n) (t.docs + 1) url other
+    (λ z. Open t.navs t.docs group (home_of t asker) (window_origin noopener t.docs (origin_of t asker)) (window_name name) (unless noopener n) (window_flags t n) navigator (Some z)) (λ z. refl) (λ kept z. refl)
+    (home_of_open t x asker t.navs group (home_of t asker) (window_origin noopener t.docs (origin_of t asker)) (window_name name) (unless noopener n) (window_flags t n) navigator
+    (load_for rules t group (window_flags t n) (t.docs + 1) asker url) refl) e h
+
+frame_twin : (rules : Rules) (left : List Entry) (r x asker home : ℕ) (origin : Origin) (name : List ℕ) (flags group : ℕ) (url other : List ℕ) → HasSameOrigin (tree_of left) asker url other → (a b : Bool) → a ≡ b
+    → IsElsewhere r (url_home (tree_of left) (Frame (tree_of left).navs (tree_of left).docs home origin name flags (if a then None else Some (load_for rules (tree_of left) group flags ((tree_of left).docs + 1) asker url))))
+    → TwinWhat left r x asker (Frame (tree_of left).navs (tree_of left).docs home origin name flags (if a then None else Some (load_for rules (tree_of left) group flags ((tree_of left).docs + 1) asker url)))
+    (Frame (tree_of left).navs (tree_of left).docs home origin name flags (if b then None else Some (load_for rules (tree_of left) group flags ((tree_of left).docs + 1) asker other)))
+frame_twin rules left r x asker home origin name flags group url other e true true s h = absurd h
+frame_twin rules left r x asker home origin name flags group url other e false false s h =
+    let t : Tree = tree_of left in
+    loading_twin rules left r x asker group flags (t.docs + 1) url other (λ z. Frame t.navs t.docs home origin name flags (Some z)) (λ z. refl) (λ kept z. refl)
+    (home_of_frame t x asker t.navs home origin name flags (load_for rules t group flags (t.docs + 1) asker url) refl) e h
+frame_twin rules left r x asker home origin name flags group url other e true false s h = absurd (false≢true (sym s))
+frame_twin rules left r x asker home origin name flags group url other e false true s h = absurd (false≢true s)
+
+-- DECISIONS
+
+or_none : (o : Option ℕ) → option_or o None ≡ o
+or_none None = refl
+or_none (Some n) = refl
+
+at_one : (r : ℕ) (t : Tree) (e : Entry) → IsElsewhere r (url_home_in t (e ∷ [])) → IsElsewhere r (url_home t e.what)
+at_one r t e h = subst (IsElsewhere r) (or_none (url_home t e.what)) h
+
+front_by : (t : Tree) (r : ℕ) (test : Bool) (f e : Entry) → url_home t f.what ≡ None → IsElsewhere r (url_home_in t ((if test then [] else f ∷ []) ++ e ∷ [])) → IsElsewhere r (url_home t e.what)
+front_by t r true f e none h = at_one r t e h
+front_by t r false f e none h = at_one r t e (rw none at h)
+
+-- the opener's entry has no URL
+opener_front : (t : Tree) (r x asker n : ℕ) (noopener : Bool) (e : Entry) → IsElsewhere r (url_home_in t (opener_entry t x asker noopener n ++ e ∷ [])) → IsElsewhere r (url_home t e.what)
+opener_front t r x asker n noopener e h = front_by t r (noopener || n == nav_of t asker) (by x asker (Opener n (Some (nav_of t asker)))) e refl h
+
+post_home : (t : Tree) (r x asker doc from d : ℕ) (origin : Origin) (target : Target) (body : Data) → (home_of t d == r) ≡ false → is_homed (tree_after t (by x asker (Post doc from origin target body))) r d ≡ false
+unfolding tree_after
+post_home t r x asker doc from d origin target body h = h
+
+post_agree : (left : List Entry) (r x asker doc from : ℕ) (origin : Origin) (target other : Target) (body other_body : Data) → (home_of (tree_of left) doc == r) ≡ false → (test : Bool)
+    → Agree r left (one x asker (if test then Post doc from origin target body else Sync) reply.Done) (one x asker (if test then Post doc from origin other other_body else Sync) reply.Done)
+post_agree left r x asker doc from origin target other body other_body h true =
+    let a : Entry = by x asker (Post doc from origin target body) in
+    let k : is_homed (tree_of (a ∷ left)) r doc ≡ false = rw (tree_of_step a left) (post_home (tree_of left) r x asker doc from doc origin target body h) in
+    agree_at r left [] x asker (Post doc from origin target body) (Post doc from origin other other_body) reply.Done (record { same_bare = refl; same_blank = rw k refl })
+post_agree left r x asker doc from origin target other body other_body h false = agree_same r left (one x asker Sync reply.Done)
+
+twin_if : (left : List Entry) (r x asker : ℕ) (test : Bool) (v w other : What) → (IsElsewhere r (url_home (tree_of left) v) → TwinWhat left r x asker v w)
+    → IsElsewhere r (url_home (tree_of left) (if test then v else other)) → TwinWhat left r x asker (if test then v else other) (if test then w else other)
+twin_if left r x asker true v w other f h = f h
+twin_if left r x asker false v w other f h = same_twin (is_homed (tree_of (by x asker other ∷ left)) r) (by x asker other)
+
+link_twin : (rules : Rules) (left : List Entry) (r x asker : ℕ) (url other name : List ℕ) (noopener user fragment : Bool) → HasSameOrigin (tree_of left) asker url other → (c : Choice)
+    → IsElsewhere r (url_home (tree_of left) (link_chosen rules (tree_of left) fragment asker url name noopener user c))
+    → TwinWhat left r x asker (link_chosen rules (tree_of left) fragment asker url name noopener user c) (link_chosen rules (tree_of left) fragment asker other name noopener user c)
+link_twin rules left r x asker url other name noopener user fragment e Nothing h = absurd h
+link_twin rules left r x asker url other name noopener user fragment e New h = window_twin rules left r x asker url other name noopener e h
+link_twin rules left r x asker url other name noopener user fragment e (Existing n) h =
+    let t : Tree = tree_of left in
+    twin_if left r x asker (may_navigate t (nav_of t asker) n user) (navigation rules t fragment asker n url) (navigation rules t fragment asker n other) Sync (navigation_twin rules left r x asker n url other e fragment) h
+
+opened_agree : (rules : Rules) (left : List Entry) (r x asker : ℕ) (url other name : List ℕ) (noopener user fragment : Bool) → HasSameOrigin (tree_of left) asker url other → (c : Choice)
+    → IsElsewhere r (url_home_in (tree_of left) (open_chosen rules (tree_of left) fragment x asker (Some url) name noopener user c).entries)
+    → Agree r left (open_chosen rules (tree_of left) fragment x asker (Some url) name noopener user c) (open_chosen rules (tree_of left) fragment x asker (Some other) name noopener user c)
+opened_agree rules left r x asker url other name noopener user fragment e Nothing h = agree_same r left (one x asker Sync reply.Null)
+opened_agree rules left r x asker url other name noopener user fragment e New h =
+    let t : Tree = tree_of left in
+    agree_at r left [] x asker (new_window rules t asker name noopener (Some url)) (new_window rules t asker name noopener (Some other)) (made_or_null noopener t.navs)
+    (window_twin rules left r x asker url other name noopener e (at_one r t (by x asker (new_window rules t asker name noopener (Some url))) h))
+opened_agree rules left r x asker url other name noopener user fragment e (Existing n) h =
+    let t : Tree = tree_of left in
+    let front : List Entry = opener_entry t x asker noopener n in
+    let o : ReplyOutcome = made_or_null noopener n in
+    agree_if r left t (may_navigate t (nav_of t asker) n user) (record { entries = front ++ by x asker (navigation rules t fragment asker n url) ∷ []; outcome = o })
+    (record { entries = front ++ by x asker (navigation rules t fragment asker n other) ∷ []; outcome = o }) (one x asker Sync (reply.Security 7))
+    (λ k. agree_at r left front x asker (navigation rules t fragment asker n url) (navigation rules t fragment asker n other) o
+    (navigation_twin rules left r x asker n url other e fragment (opener_front t r x asker n noopener (by x asker (navigation rules t fragment asker n url)) k))) h
+
+decide-differs : (rules : Rules) (left : List Entry) (fragment : Bool) (r x : ℕ) (q q' : Request) → Differs rules (tree_of left) fragment r x q q'
+    → Agree r left (decide rules (tree_of left) fragment x q) (decide rules (tree_of left) fragment x q')
+unfolding decide
+decide-differs rules left fragment r x q q' (Message asker doc target other body other_body h) =
+    let t : Tree = tree_of left in
+    post_agree left r x asker doc (nav_of t asker) (origin_of t asker) target other body other_body h (is_near t asker doc)
+decide-differs rules left fragment r x q q' (Gone_to asker doc url other user e h) =
+    let t : Tree = tree_of left in
+    let n : ℕ = nav_of t doc in
+    agree_if r left t (is_live t asker doc) (if may_navigate t (nav_of t asker) n user then one x asker (navigation rules t fragment asker n url) reply.Done else one x asker Sync (reply.Security 7))
+    (if may_navigate t (nav_of t asker) n user then one x asker (navigation rules t fragment asker n other) reply.Done else one x asker Sync (reply.Security 7)) (one x asker Sync reply.Done)
+    (λ k. agree_if r left t (may_navigate t (nav_of t asker) n user) (one x asker (navigation rules t fragment asker n url) reply.Done) (one x asker (navigation rules t fragment asker n other) reply.Done) (one x asker Sync (reply.Security 7))
+    (λ l. agree_at r left [] x asker (navigation rules t fragment asker n url) (navigation rules t fragment asker n other) reply.Done
+    (navigation_twin rules left r x asker n url other e fragment (at_one r t (by x asker (navigation rules t fragment asker n url)) l))) k) h
+decide-differs rules left fragment r x q q' (Linked asker url other name noopener user e h) =
+    let t : Tree = tree_of left in
+    let c : Choice = choice t (nav_of t asker) name noopener user in
+    agree_at r left [] x asker (link_chosen rules t fragment asker url name noopener user c) (link_chosen rules t fragment asker other name noopener user c) reply.Done
+    (link_twin rules left r x asker url other name noopener user fragment e c (at_one r t (by x asker (link_chosen rules t fragment asker url name noopener user c)) h))
+decide-differs rules left fragment r x q q' (Opened asker url other name noopener user e h) =
+    opened_agree rules left r x asker url other name noopener user fragment e (choice (tree_of left) (nav_of (tree_of left) asker) name noopener user) h
+decide-differs rules left fragment r x q q' (Framed asker url other name flags e s h) =
+    let t : Tree = tree_of left in
+    let all : ℕ = union flags (flags_in t (nav_of t asker)) in
+    agree_at r left [] x asker (frame_entry rules t asker name all (Some url)) (frame_entry rules t asker name all (Some other)) (reply.Made t.navs)
+    (frame_twin rules left r x asker (home_of t asker) (frame_origin (has_origin all) t.docs (origin_of t asker)) name all (group_in t (nav_of t asker)) url other e (is_none (page_origin url)) (is_none (page_origin other)) s
+    (at_one r t (by x asker (frame_entry rules t asker name all (Some url))) h))
+
+-- EXCHANGES
+
+-- what is asked and answered, by whether the asker is at home there and active
+abbrev answered : Rules → Tree → Bool → ℕ → ℕ → Request → Decision
+answered rules t fragment place x q =
+    if is (home_if_active t (asker_of q)) x then (if is_active t (asker_of q) then decide rules t fragment x q else unloaded place) else not_yours t (asker_of q)
+
+exchange-answered : (rules : Rules) (log : List Entry) (x : ℕ) (q : Request) → is_next q ≡ false
+    → exchange rules log x q ≡ answered rules (tree_of log) (is_fragment (tree_of log) (url_of log) q) (end_of log (asker_of q)) x q
+exchange-answered rules log x q other = exchange-asked rules log x q other
+    ∙ ap (λ (d : Decision). if is (home_if_active (tree_of log) (asker_of q)) x then d else not_yours (tree_of log) (asker_of q)) (asked-decided rules log x q)
+
+-- the answer on the right log, by what the left log has
+answered-right : (rules : Rules) (left right : List Entry) (r x : ℕ) (fragment : Bool) (q : Request) → TwinLogs r left right → is_next q ≡ false → fragment ≡ is_fragment (tree_of right) (url_of right) q
+    → exchange rules right x q ≡ answered rules (tree_of left) fragment (end_of left (asker_of q)) x q
+answered-right rules left right r x fragment q h other s = exchange-answered rules right x q other ∙ rw (tree_of-twin r left right h, end_of-twin r left right (asker_of q) h, s) refl
+
+asker_same : (rules : Rules) (t : Tree) (fragment : Bool) (r x : ℕ) (q q' : Request) → Differs rules t fragment r x q q' → (asker_of q ≡ asker_of q') × (is_next q ≡ false) × (is_next q' ≡ false)
+unfolding is_next
+asker_same rules t fragment r x q q' (Message _ _ _ _ _ _ _) = (refl, refl, refl)
+asker_same rules t fragment r x q q' (Gone_to _ _ _ _ _ _ _) = (refl, refl, refl)
+asker_same rules t fragment r x q q' (Linked _ _ _ _ _ _ _ _) = (refl, refl, refl)
+asker_same rules t fragment r x q q' (Opened _ _ _ _ _ _ _ _) = (refl, refl, refl)
+asker_same rules t fragment r x q q' (Framed _ _ _ _ _ _ _ _) = (refl, refl, refl)
+
+agree_then : (r : ℕ) (left : List Entry) (test : Bool) (a b last : Decision) → Agree r left a b → Agree r left (if test then a else last) (if test then b else last)
+agree_then r left true a b last h = h
+agree_then r left false a b last h = agree_same r left last
+
+answered_agree : (rules : Rules) (left : List Entry) (fragment : Bool) (place r x : ℕ) (q q' : Request) → Differs rules (tree_of left) fragment r x q q'
+    → Agree r left (answered rules (tree_of left) fragment place x q) (answered rules (tree_of left) fragment place x q')
+answered_agree rules left fragment place r x q q' d =
+    let t : Tree = tree_of left in
+    rw ((asker_same rules t fragment r x q q' d).0)
+    (agree_then r left (is (home_if_active t (asker_of q')) x) _ _ (not_yours t (asker_of q'))
+    (agree_then r left (is_active t (asker_of q')) (decide rules t fragment x q) (decide rules t fragment x q') (unloaded place) (decide-differs rules left fragment r x q q' d)))
+
+differs_pair : (rules : Rules) (left right : List Entry) (r x : ℕ) (q q' : Request) → TwinLogs r left right → is_fragment (tree_of left) (url_of left) q ≡ is_fragment (tree_of right) (url_of right) q'
+    → Differs rules (tree_of left) (is_fragment (tree_of left) (url_of left) q) r x q q' → Agree r left (exchange rules left x q) (exchange rules right x q')
+differs_pair rules left right r x q q' h s d =
+    let f : Bool = is_fragment (tree_of left) (url_of left) q in
+    let same = asker_same rules (tree_of left) f r x q q' d in
+    let place : end_of left (asker_of q') ≡ end_of left (asker_of q) = ap (end_of left) (sym same.0) in
+    let answer : exchange rules right x q' ≡ answered rules (tree_of left) f (end_of left (asker_of q)) x q' =
+    answered-right rules left right r x f q' h same.2 s ∙ ap (λ (n : ℕ). answered rules (tree_of left) f n x q') place in
+    subst (λ (d : Decision). Agree r left (exchange rules left x q) d) (sym answer)
+    (subst (λ (d : Decision). Agree r left d (answered rules (tree_of left) f (end_of left (asker_of q)) x q')) (sym (exchange-answered rules left x q same.1))
+    (answered_agree rules left f (end_of left (asker_of q)) r x q q' d))
+
+-- equal requests
+same_pair : (rules : Rules) (left right : List Entry) (r x : ℕ) (q : Request) → TwinLogs r left right → HomesStay left → is_fragment (tree_of left) (url_of left) q ≡ is_fragment (tree_of right) (url_of right) q
+    → (next : Bool) → is_next q ≡ next → Agree r left (exchange rules left x q) (exchange rules right x q)
+same_pair rules left right r x q h stay s false e =
+    let f : Bool = is_fragment (tree_of left) (url_of left) q in
+    rw (exchange-answered rules left x q e, answered-right rules left right r x f q h e s) (agree_same r left (answered rules (tree_of left) f (end_of left (asker_of q)) x q))
+same_pair rules left right r x q h stay s true e = subst (λ (z : Request). Agree r left (exchange rules left x z) (exchange rules right x z)) (sym (only_next q e)) (next_pair rules left right r x h stay)
+
+-- one exchange of any renderer on twin logs of r: the outcomes are the same, and the logs after it are twin logs
+pub exchange-twin : (rules : Rules) (left right : List Entry) (r x : ℕ) (q q' : Request) → TwinLogs r left right → HomesStay left → IsAlike rules left right r x q q'
+    → ((exchange rules left x q).outcome ≡ (exchange rules right x q').outcome) × TwinLogs r ((exchange rules left x q).entries ++ left) ((exchange rules right x q').entries ++ right)
+exchange-twin rules left right r x q q' h stay alike =
+    let a : Agree r left (exchange rules left x q) (exchange rules right x q') =
+    elim (alike.alike) as (λ _. Agree r left (exchange rules left x q) (exchange rules right x q')) [
+      | inl e ↦ subst (λ (z : Request). is_fragment (tree_of left) (url_of left) q ≡ is_fragment (tree_of right) (url_of right) z → Agree r left (exchange rules left x q) (exchange rules right x z)) e
+          (λ s. same_pair rules left right r x q h stay s (is_next q) refl) alike.same_kind
+      | inr d ↦ differs_pair rules left right r x q q' h alike.same_kind d.2
+    ] in
+    (a.outcome, a.logs right h)
