@@ -6,3 +6,4 @@ pub mod DataLaws
 pub mod OriginLaws
 pub mod Puts
 pub mod LastLaws
+pub mod LimitLaws

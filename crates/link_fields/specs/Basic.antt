@@ -2,6 +2,7 @@
 use Rattle.std.specs.Prelude.{ℕ, ◌<◌, ◌^◌, ◌&&◌, nat_lt, nat_le, ◌==◌, List, [], ◌++◌, length, take, drop, Bool, cond, Option, Some, None, Ok, Err, if◌then◌else◌}
 use Rattle.std.specs.Int.{Width, w8, w16, w32, w64, byte_len, from_be_bytes, to_be_bytes}
 use Rattle.std.specs.Str.{is_utf8}
+use Rattle.plain_data.specs.DataLimits.{is_short}
 use Rattle.origin_core.specs.Page.{is_page_text}
 use Rattle.link_fields.specs.declared.fault.Flaw.TheVariants.{Short, Range, Text, Url}
 use Rattle.link_fields.specs.Field.{Outcome, ◌>>=◌, fault_at, Field, nothing, only, mapped, keyed}
@@ -76,9 +77,9 @@ string = record {
   read = string_at;
 }
 
--- UTF-8 of at most 1,024 bytes
+-- UTF-8 within the limit of texts
 unfoldable pub is_text : List ℕ → Bool
-is_text text = is_utf8 text && nat_le (length text) 1024
+is_text text = is_utf8 text && is_short text
 
 abbrev pub text : Field (List ℕ)
 text = only Text is_text string

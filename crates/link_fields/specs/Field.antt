@@ -9,8 +9,9 @@ use Rattle.link_fields.specs.declared.fault.ReadError.TheVariants as errors
 abbrev pub Outcome : Type 0 → Type 0
 Outcome A = Result A Fault
 
+-- the next step, unless this one failed
 infixl 10 ◌>>=◌
-abbrev pub ◌>>=◌ : {A B : Type 0} → Outcome A → (A → Outcome B) → Outcome B
+abbrev pub ◌>>=◌ : {A B E : Type 0} → Result A E → (A → Result B E) → Result B E
 (Ok x) >>= f = f x
 (Err e) >>= f = Err e
 

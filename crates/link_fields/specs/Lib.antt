@@ -5,3 +5,4 @@ pub mod Values
 pub mod Skipping
 pub mod Origins
 pub mod Last
+pub mod Limits

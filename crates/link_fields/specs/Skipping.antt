@@ -1,5 +1,6 @@
 -- Data in range, and the bytes behind data of any depth.
 use Rattle.std.specs.Prelude.{ℕ, zero, suc, ◌+◌, ◌-◌, ◌<◌, ◌≤◌, nat_le, nat_lt, ◌==◌, List, [], ◌∷◌, length, map, reverse, Bool, true, false, Option, Some, None, option_copied, Ok, Err, if◌then◌else◌}
+use Rattle.plain_data.specs.DataLimits.{most_depth, most_size}
 use Rattle.plain_data.specs.declared.data.Data.{Data}
 use Rattle.link_fields.specs.declared.skipping.Open.{Open}
 use Rattle.link_fields.specs.declared.fault.Flaw.TheVariants.{Range}
@@ -12,17 +13,17 @@ abbrev pub rest_of : {A : Type 0} → Outcome (A × List ℕ) → Outcome (List 
 rest_of read = read >>= λ x. Ok x.1
 
 abbrev pub within : List ℕ → Outcome (Data × List ℕ) → Outcome (Data × List ℕ)
-within bytes (Ok x) = if nat_le (length bytes - length x.1) 4096 then Ok x else Err (fault_at Range bytes)
+within bytes (Ok x) = if nat_le (length bytes - length x.1) most_size then Ok x else Err (fault_at Range bytes)
 within bytes (Err e) = Err (fault_at Range bytes)
 
 -- The parts are read first, as deep as they go. Then the depth and the size are tested.
 unfoldable pub data_at : List ℕ → Outcome (Data × List ℕ)
-data_at bytes = rest_of ((value (16 + length bytes)).read bytes) >>= λ _. within bytes ((value 16).read bytes)
+data_at bytes = rest_of ((value (most_depth + length bytes)).read bytes) >>= λ _. within bytes ((value most_depth).read bytes)
 
 abbrev pub data_field : Field Data
 data_field = record {
-  spell = (value 16).spell;
-  Fits = λ d. (value 16).Fits d × (length ((value 16).spell d) ≤ 4096);
+  spell = (value most_depth).spell;
+  Fits = λ d. (value most_depth).Fits d × (length ((value most_depth).spell d) ≤ most_size);
   read = data_at;
 }
 

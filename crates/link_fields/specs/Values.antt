@@ -1,8 +1,9 @@
 -- Data: a tag, and what is inside, to any depth.
-use Rattle.std.specs.Prelude.{ℕ, zero, suc, ℤ, pos, negsuc, ◌-◌, ◌^◌, nat_lt, ◌==◌, List, [], ◌∷◌, ◌++◌, length, Bool, true, false, cond, Option, Some, None, Ok, if◌then◌else◌}
+use Rattle.std.specs.Prelude.{ℕ, zero, suc, ℤ, pos, negsuc, ◌-◌, ◌^◌, nat_le, nat_lt, ◌==◌, List, [], ◌∷◌, ◌++◌, length, Bool, true, false, cond, Option, Some, None, Ok, if◌then◌else◌}
 use Rattle.std.specs.List.{flat_map, AllByRecursion}
 use Rattle.std.specs.Int.{w64}
 use Rattle.plain_data.specs.Ascending.{is_below}
+use Rattle.plain_data.specs.DataLimits.{most_whole}
 use Rattle.plain_data.specs.declared.data.Data.{Data, out-Data, roll-Data}
 use Rattle.plain_data.specs.declared.data.Data.TheOpen.{Data-F}
 use Rattle.link_fields.specs.declared.fault.Flaw.TheVariants.{Range}
@@ -19,10 +20,10 @@ abbrev pub word_of : ℤ → ℕ
 word_of (pos n) = n
 word_of (negsuc k) = 2 ^ 64 - 1 - k
 
--- up to 2 ^ 53 - 1 either way
+-- within plus or minus the limit of wholes
 abbrev pub is_exact : ℤ → Bool
-is_exact (pos n) = nat_lt n (2 ^ 53)
-is_exact (negsuc k) = nat_lt k (2 ^ 53 - 1)
+is_exact (pos n) = nat_le n most_whole
+is_exact (negsuc k) = nat_lt k most_whole
 
 abbrev pub whole : Field ℤ
 whole = only Range is_exact (mapped whole_of word_of (number w64 (2 ^ 64)))

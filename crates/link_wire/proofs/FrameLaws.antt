@@ -5,13 +5,14 @@ use Rattle.std.specs.Int.{w32, to_be_bytes, from_be_bytes}
 use Rattle.std.proofs.lemmas.Bool.{eqb-true, ltb-false, le-ltb}
 use Rattle.std.proofs.lemmas.Bool.Decides.{nat_tests}
 use Rattle.std.proofs.lemmas.List.{length-append, length-drop, get_or-drop, nil_from_length, append-nil}
-use Rattle.single_agent.specs.declared.request.Why.TheVariants.{Version, Kind, Length, Short, Tail}
+use Rattle.agent_terms.specs.declared.request.Why.TheVariants.{Version, Kind, Length, Short, Tail}
 use Rattle.link_fields.specs.Lawful.{IsBytes, IsLawful}
 use Rattle.link_fields.specs.Field.{Outcome, Field}
 use Rattle.link_fields.specs.Basic.{number_bytes, u32}
 use Rattle.link_fields.proofs.FieldLaws.{wide32}
 use Rattle.link_wire.specs.declared.bad.Bad.{Bad}
-use Rattle.link_wire.specs.Bad.{Decoded, ◌>>=◌, bad_at}
+use Rattle.link_fields.specs.Field.{◌>>=◌}
+use Rattle.link_wire.specs.Bad.{Decoded, bad_at}
 use Rattle.link_wire.specs.Frames.{frame, head_at, body_at, split_at, ended, frame_at}
 
 abbrev ok : {A : Type 0} → A → Decoded A

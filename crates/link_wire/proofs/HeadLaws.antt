@@ -5,7 +5,7 @@ use Rattle.std.specs.Int.{w32, from_be_bytes}
 use Rattle.std.proofs.lemmas.Bool.{ltb-false, le-ltb}
 use Rattle.std.proofs.lemmas.Bool.Decides.{nat_tests}
 use Rattle.std.proofs.lemmas.List.{length-append, length-drop, get_or_append_left, drop-append-le, take-append-le}
-use Rattle.single_agent.specs.declared.request.Why.TheVariants.{Version, Kind, Length, Short}
+use Rattle.agent_terms.specs.declared.request.Why.TheVariants.{Version, Kind, Length, Short}
 use Rattle.link_wire.specs.declared.bad.Bad.{Bad}
 use Rattle.link_wire.specs.declared.frame.Side.TheVariants as sides
 use Rattle.link_wire.specs.Bad.{Decoded, bad_at}

@@ -3,8 +3,8 @@ use Rattle.std.proofs.Common.{◌≡◌, ℕ, ◌≤◌, true, List, [], ◌++�
 use Rattle.std.specs.Prelude.{IfOk}
 use Rattle.std.specs.List.{flat_map}
 use Rattle.std.proofs.lemmas.List.{append-nil}
-use Rattle.single_agent.specs.declared.request.ReplyOutcome.{ReplyOutcome}
-use Rattle.single_agent.specs.declared.request.ReplyOutcome.TheVariants as outcomes
+use Rattle.agent_terms.specs.declared.request.ReplyOutcome.{ReplyOutcome}
+use Rattle.agent_terms.specs.declared.request.ReplyOutcome.TheVariants as outcomes
 use Rattle.link_fields.specs.Basic.{u32}
 use Rattle.link_fields.specs.Lawful.{IsBytes}
 use Rattle.link_wire.specs.declared.bad.DecodeError.{DecodeError}

@@ -1,8 +1,8 @@
 -- Replies: what is read is spelled so, and what is spelled so is read.
 use Rattle.std.proofs.Common.{◌≡◌, ℕ, zero, suc, eqb, nat_le, refl, sym, ap, arith}
 use Rattle.std.specs.Prelude.{◌||◌, ◌&&◌, ◌==◌}
-use Rattle.single_agent.specs.declared.request.ReplyOutcome.{ReplyOutcome}
-use Rattle.single_agent.specs.declared.request.ReplyOutcome.TheVariants as outcomes
+use Rattle.agent_terms.specs.declared.request.ReplyOutcome.{ReplyOutcome}
+use Rattle.agent_terms.specs.declared.request.ReplyOutcome.TheVariants as outcomes
 use Rattle.link_fields.specs.declared.fault.Flaw.TheVariants.{Range}
 use Rattle.link_fields.specs.Field.{◌⊗◌}
 use Rattle.link_fields.specs.Basic.{u8, u16, u32, small}

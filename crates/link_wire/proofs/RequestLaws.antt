@@ -7,8 +7,8 @@ use Rattle.link_fields.proofs.FieldLaws.{nothing_law, pair_law, u32_law, text_la
 use Rattle.link_fields.proofs.ValueLaws.{row_law, either_law, either_key, never_law}
 use Rattle.link_wire.proofs.EntryLaws.{target_law}
 use Rattle.link_fields.proofs.DataLaws.{data_law}
-use Rattle.single_agent.specs.declared.request.Request.{Request}
-use Rattle.single_agent.specs.declared.request.Request.TheVariants as requests
+use Rattle.agent_terms.specs.declared.request.Request.{Request}
+use Rattle.agent_terms.specs.declared.request.Request.TheVariants as requests
 use Rattle.link_wire.specs.Requests.{kind_of, request_body, request_row, sync_fields, frame_fields, drop_fields, open_fields, link_fields, go_fields, name_fields, disown_fields, close_fields, post_fields, sync_row, frame_row, drop_row, open_row, link_row, go_row, name_row, disown_row, close_row, post_row}
 
 sync_law : IsLawful sync_row

@@ -1,7 +1,7 @@
 -- Where bytes are no frame, and why: what a decoder answers.
 use Rattle.std.specs.Prelude.{◌≡◌, ℕ, ◌-◌, List, length, Result, Ok, Err}
-use Rattle.single_agent.specs.declared.request.Why.{Why}
-use Rattle.single_agent.specs.declared.request.Why.TheVariants as whys
+use Rattle.agent_terms.specs.declared.request.Why.{Why}
+use Rattle.agent_terms.specs.declared.request.Why.TheVariants as whys
 use Rattle.link_fields.specs.declared.fault.Flaw.{Flaw}
 use Rattle.link_fields.specs.declared.fault.Flaw.TheVariants as flaws
 use Rattle.link_fields.specs.declared.fault.ReadError.{ReadError}
@@ -13,11 +13,6 @@ use Rattle.link_wire.specs.declared.bad.DecodeError.TheVariants as errors
 -- what is read, or where and why it is none
 abbrev pub Decoded : Type 0 → Type 0
 Decoded A = Result A Bad
-
-infixl 10 ◌>>=◌
-abbrev pub ◌>>=◌ : {A B : Type 0} → Decoded A → (A → Decoded B) → Decoded B
-(Ok x) >>= f = f x
-(Err e) >>= f = Err e
 
 abbrev pub bad_at : ℕ → Why → Bad
 bad_at place why = record { place = place; why = why }

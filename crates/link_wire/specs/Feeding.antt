@@ -1,7 +1,7 @@
 -- Frames of requests from a stream that comes in pieces.
-use Rattle.std.specs.Prelude.{◌≡◌, ℕ, ◌+◌, ◌≤◌, nat_lt, List, [], ◌++◌, length, take, Bool, true, false, Option, Some, None, Ok, Err}
-use Rattle.single_agent.specs.declared.request.Why.{Why}
-use Rattle.single_agent.specs.declared.request.Why.TheVariants as whys
+use Rattle.std.specs.Prelude.{◌≡◌, ℕ, ◌+◌, ◌<◌, ◌≤◌, nat_lt, List, [], ◌++◌, length, take, Bool, true, false, Option, Some, None, Ok, Err}
+use Rattle.agent_terms.specs.declared.request.Why.{Why}
+use Rattle.agent_terms.specs.declared.request.Why.TheVariants as whys
 use Rattle.link_wire.specs.declared.bad.Bad.{Bad}
 use Rattle.link_wire.specs.declared.frame.Side.TheVariants as sides
 use Rattle.link_wire.specs.declared.reader.Fed.{Fed}
@@ -57,3 +57,13 @@ TurnBy (Some bad) fed old piece new into = (fed ≡ feds.Bad bad.place bad.why) 
 -- one feed of a reader: a fault is repeated
 abbrev pub Turn : Fed → Held → List ℕ → Held → List ℕ → Type 0
 Turn fed old piece new into = TurnBy old.bad fed old piece new into
+
+-- ---- for private clauses
+
+-- What a head lacked of a piece stands behind the old bytes, and the rest of the piece is left.
+pub record Fills (old piece have rest : List ℕ) : Type 0 where
+  pub all : have ++ rest ≡ old ++ piece
+  pub stays : take (length old) have ≡ old
+  pub most : length rest ≤ length piece
+  pub within : length have < 6 → rest ≡ []
+  pub beyond : 6 < length have → have ≡ old

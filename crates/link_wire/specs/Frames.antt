@@ -1,12 +1,12 @@
 -- Frames: version 1, kind, length of the body, body. A body's fields are read by a table of kinds.
 use Rattle.std.specs.Prelude.{ℕ, ◌+◌, ◌-◌, ◌==◌, nat_lt, nat_le, ◌&&◌, not, List, ◌∷◌, ◌++◌, length, take, drop, slice_index, Bool, Ok, Err, if◌then◌else◌}
 use Rattle.std.specs.Int.{w32, from_be_bytes}
-use Rattle.single_agent.specs.declared.request.Why.TheVariants.{Version, Kind, Length, Short, Tail}
-use Rattle.link_fields.specs.Field.{Outcome, Field}
+use Rattle.agent_terms.specs.declared.request.Why.TheVariants.{Version, Kind, Length, Short, Tail}
+use Rattle.link_fields.specs.Field.{Outcome, ◌>>=◌, Field}
 use Rattle.link_fields.specs.Basic.{u32}
 use Rattle.link_wire.specs.declared.frame.Side.{Side}
 use Rattle.link_wire.specs.declared.frame.Side.TheVariants as sides
-use Rattle.link_wire.specs.Bad.{Decoded, ◌>>=◌, bad_at, why_of_flaw}
+use Rattle.link_wire.specs.Bad.{Decoded, bad_at, why_of_flaw}
 
 -- kinds 1 to 11 are requests, 65 to 74 (41 to 4a in hexadecimal) are replies
 abbrev pub is_kind : Side → ℕ → Bool

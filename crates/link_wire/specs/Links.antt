@@ -7,14 +7,14 @@ use Rattle.tree_log.specs.declared.entry.What.TheVariants.{Commit, Post, Fire, L
 use Rattle.tree_log.specs.Admits.{admits}
 use Rattle.tree_log.specs.Log.{entry_at}
 use Rattle.tree_log.specs.Tree.{tree_of, home_of}
-use Rattle.single_agent.specs.declared.request.Request.{Request}
-use Rattle.single_agent.specs.declared.request.Request.TheVariants as ask
-use Rattle.single_agent.specs.declared.request.ReplyOutcome.{ReplyOutcome}
-use Rattle.single_agent.specs.declared.request.ReplyOutcome.TheVariants as reply
+use Rattle.agent_terms.specs.declared.request.Request.{Request}
+use Rattle.agent_terms.specs.declared.request.Request.TheVariants as ask
+use Rattle.agent_terms.specs.declared.request.ReplyOutcome.{ReplyOutcome}
+use Rattle.agent_terms.specs.declared.request.ReplyOutcome.TheVariants as reply
 use Rattle.link_wire.specs.declared.link.LinkError.{LinkError}
 use Rattle.link_wire.specs.declared.link.LinkError.TheVariants.{Failed}
 use Rattle.link_wire.specs.ReplyParts.{ReplyParts}
-use Rattle.link_wire.specs.Requests.{request_of}
+use Rattle.link_wire.specs.Requests.{request_read}
 use Rattle.link_wire.specs.Replies.{reply_of}
 
 -- ---- requests
@@ -112,7 +112,7 @@ pub record IsReplyTo (r : ℕ) (heard : List Entry) (request : Request) (answer 
 -- to a fit request a link that tells answers with a reply to it
 abbrev pub AnswersFit : Option ℕ → Option (List Entry) → List ℕ → Result (Unit {0}) LinkError → List ℕ → Type 0
 AnswersFit (Some r) (Some heard) bytes (Ok _) answer =
-    (request : Request) → request_of bytes ≡ Ok request → is_fit r heard request ≡ true
+    (request : Request) → request_read bytes ≡ Ok request → is_fit r heard request ≡ true
     → (parts : ReplyParts) × (reply_of answer ≡ Ok parts) × IsReplyTo r heard request parts
 AnswersFit _ _ bytes _ answer = Unit {0}
 

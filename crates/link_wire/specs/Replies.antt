@@ -1,10 +1,10 @@
 -- Replies: the fields of each outcome, the entries that are told, and the frame of each reply.
 use Rattle.std.specs.Prelude.{◌≤◌, ℕ, ◌==◌, nat_le, ◌&&◌, ◌||◌, List, [], ◌++◌, length, Bool, cond, Option, if◌then◌else◌}
 use Rattle.std.specs.List.{flat_map}
-use Rattle.single_agent.specs.declared.request.ReplyOutcome.{ReplyOutcome}
-use Rattle.single_agent.specs.declared.request.ReplyOutcome.TheVariants as outcomes
-use Rattle.single_agent.specs.declared.request.Why.{Why}
-use Rattle.single_agent.specs.declared.request.Why.TheVariants as whys
+use Rattle.agent_terms.specs.declared.request.ReplyOutcome.{ReplyOutcome}
+use Rattle.agent_terms.specs.declared.request.ReplyOutcome.TheVariants as outcomes
+use Rattle.agent_terms.specs.declared.request.Why.{Why}
+use Rattle.agent_terms.specs.declared.request.Why.TheVariants as whys
 use Rattle.link_fields.specs.declared.fault.Flaw.TheVariants.{Range}
 use Rattle.link_fields.specs.Field.{Field, ◌⊗◌, nothing, never, row, only, mapped}
 use Rattle.link_fields.specs.Basic.{u8, u16, u32, small, optional}

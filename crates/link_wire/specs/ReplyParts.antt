@@ -1,7 +1,7 @@
 -- What contracts see of a reply.
 use Rattle.std.specs.Prelude.{ℕ, List}
 use Rattle.tree_log.specs.declared.entry.Entry.{Entry}
-use Rattle.single_agent.specs.declared.request.ReplyOutcome.{ReplyOutcome}
+use Rattle.agent_terms.specs.declared.request.ReplyOutcome.{ReplyOutcome}
 use Rattle.link_wire.specs.declared.reply.Reply.TheInside.{Inside}
 
 pub record ReplyParts : Type 0 where

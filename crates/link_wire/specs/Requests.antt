@@ -10,8 +10,8 @@ use Rattle.link_wire.specs.Parts.{target}
 use Rattle.link_wire.specs.Bad.{Decoded}
 use Rattle.link_wire.specs.Frames.{is_kind, limit, frame, frame_at}
 use Rattle.link_wire.specs.declared.frame.Side.TheVariants as sides
-use Rattle.single_agent.specs.declared.request.Request.{Request}
-use Rattle.single_agent.specs.declared.request.Request.TheVariants as requests
+use Rattle.agent_terms.specs.declared.request.Request.{Request}
+use Rattle.agent_terms.specs.declared.request.Request.TheVariants as requests
 
 -- ---- the fields of each kind
 
@@ -130,5 +130,5 @@ abbrev pub IsRequest : Request → Type 0
 IsRequest r = (request_row (kind_of r)).Fits r × (length (request_body r) ≤ limit sides.Request)
 
 -- the request that the bytes spell, or the first fault
-abbrev pub request_of : List ℕ → Decoded Request
-request_of bytes = frame_at (is_kind sides.Request) (limit sides.Request) request_row bytes
+abbrev pub request_read : List ℕ → Decoded Request
+request_read bytes = frame_at (is_kind sides.Request) (limit sides.Request) request_row bytes

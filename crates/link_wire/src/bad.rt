@@ -2,8 +2,8 @@ ghost use Rattle.std.specs.Prelude.{◌≡◌, ◌<◌, ◌^◌, length};
 ghost use Rattle.link_wire.specs.Bad as spec;
 ghost use Rattle.link_wire.specs.declared.bad.DecodeError.TheVariants as errors;
 
+use agent_terms::Why;
 use link_fields::{Flaw, ReadError};
-use single_agent::Why;
 use std::alloc::{AllocError, AllocFailed};
 
 /// Where bytes are no frame, counted from the first one, and why.

@@ -4,7 +4,7 @@ ghost use Rattle.link_wire.specs.Bad.{Reads};
 ghost use Rattle.link_wire.specs.Frames as spec;
 
 use crate::bad::{Bad, DecodeError, bad_at};
-use single_agent::Why;
+use agent_terms::Why;
 use std::alloc::{AllocError, Global};
 
 /// What a frame is from: a renderer sends requests, and the coordinator replies.

@@ -1,5 +1,5 @@
 ghost use Rattle.std.specs.Prelude.{◌≡◌, ◌++◌, [], List, ℕ};
-ghost use Rattle.single_agent.specs.declared.request.Request.{Request};
+ghost use Rattle.agent_terms.specs.declared.request.Request.{Request};
 ghost use Rattle.link_wire.specs.Feeding.{Held};
 ghost use Rattle.link_wire.specs.ReplyParts.{ReplyParts};
 ghost use Rattle.link_wire.specs.Replies.{IsReply, reply_frame};

@@ -25,13 +25,10 @@ mod reply_rows;
 mod request_rows;
 mod requests;
 
+pub use agent_terms::{ReplyOutcome, Request, Why};
 pub use bad::{Bad, DecodeError};
 pub use link::{Link, LinkError};
 pub use reader::{Fed, FrameReader};
 pub use replies::{decode_reply, encode_reply};
 pub use reply::Reply;
 pub use requests::{decode_request, encode_request};
-pub use single_agent::{ReplyOutcome, Request, Why};
-
-#[cfg(test)]
-mod tests;

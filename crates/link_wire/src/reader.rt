@@ -1,10 +1,10 @@
 ghost use Rattle.std.specs.Prelude.{◌≡◌, ◌++◌, ◌+◌, ◌<◌, ◌≤◌, [], length, IfOk, OnOk, OnErr, None, Ok, true};
 ghost use Rattle.link_wire.specs.Feeding as spec;
-ghost use Rattle.link_wire.specs.Feeding.{Feeds, Turn, is_partial};
+ghost use Rattle.link_wire.specs.Feeding.{Feeds, Fills, Turn, is_partial};
 
 use crate::bad::Bad;
 use crate::frame::{Side, read_head};
-use single_agent::Why;
+use agent_terms::Why;
 use std::alloc::{AllocError, Global};
 use std::marker::Model;
 
@@ -100,6 +100,17 @@ fn put_both(out: &mut Vec<u8>, first: &[u8], second: &[u8]) -> Result<(), AllocE
     out.extend_from_slice(second)
 }
 
+// Moves what the head lacks from the front of the piece behind the bytes that are there, and gives the rest of the
+// piece.
+fn fill_head<'a>(have: &mut Vec<u8>, piece: &'a [u8]) -> Result<&'a [u8], AllocError>
+    ensures filled { IfOk result (λ rest. Fills have.old.items piece.now have.new.items rest.now) }
+    ensures err { OnErr result (have.new.items ≡ have.old.items) }
+{
+    let (front, rest) = split_at_head(have.len(), piece);
+    have.extend_from_slice(front)?;
+    Ok(rest)
+}
+
 // Takes what a frame lacks behind the bytes since the last one.
 fn take_piece(have: &mut Vec<u8>, piece: &[u8], into: &mut Vec<u8>) -> Result<Fed, AllocError>
     requires partial { is_partial have.old.items ≡ true }
@@ -109,8 +120,7 @@ fn take_piece(have: &mut Vec<u8>, piece: &[u8], into: &mut Vec<u8>) -> Result<Fe
     ensures err { OnErr result (have.new.items ≡ have.old.items) }
 {
     let before = have.len();
-    let (front, rest) = split_at_head(before, piece);
-    have.extend_from_slice(front)?;
+    let rest = fill_head(have, piece)?;
     match read_head(Side::Request, have.as_slice()) {
         Ok((_, len)) => {
             let lacking = 6 + len as usize - have.len();
@@ -127,7 +137,7 @@ fn take_piece(have: &mut Vec<u8>, piece: &[u8], into: &mut Vec<u8>) -> Result<Fe
             }
             have.clear();
             Ok(Fed::Whole {
-                used: front.len() + lacking,
+                used: piece.len() - rest.len() + lacking,
             })
         }
         Err(bad) => {

@@ -9,8 +9,8 @@ use crate::entry_writing::put_entries;
 use crate::frame::{Side, make_frame, put_len, read_frame};
 use crate::reply::Reply;
 use crate::reply_rows::{put_outcome, read_reply};
+use agent_terms::{ReplyOutcome, Why};
 use link_fields::put_u32;
-use single_agent::{ReplyOutcome, Why};
 use std::alloc::{AllocError, Global};
 
 fn outcome_kind(outcome: &ReplyOutcome) -> u8

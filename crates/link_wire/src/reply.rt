@@ -1,4 +1,4 @@
-use single_agent::ReplyOutcome;
+use agent_terms::ReplyOutcome;
 use std::marker::Model;
 use tree_log::Entry;
 

@@ -4,11 +4,11 @@ ghost use Rattle.link_wire.specs.Replies as spec;
 
 use crate::entry_reading::read_entries;
 use crate::reply::Reply;
+use agent_terms::{ReplyOutcome, Why};
 use link_fields::{
     Flaw, ReadError, fault_here, put_optional_u16, put_u8, put_u32, read_optional_u16, read_small,
     read_u8, read_u32,
 };
-use single_agent::{ReplyOutcome, Why};
 use std::alloc::{AllocError, Global};
 
 // The number of a security rule.

@@ -3,13 +3,13 @@ ghost use Rattle.link_fields.specs.Field.{Gives};
 ghost use Rattle.link_wire.specs.Requests as spec;
 
 use crate::parts::{put_target, read_target};
+use agent_terms::Request;
 use link_fields::{
     Flaw, LastOrigin, ReadError, fault_here, put_bool, put_data, put_flags, put_optional_url,
     put_text, put_u32, put_url, read_bool, read_data, read_flag_bits, read_optional_url, read_text,
     read_u32, read_url,
 };
 use origin_core::Flags;
-use single_agent::Request;
 use std::alloc::{AllocError, Global};
 
 fn read_sync(bytes: &[u8]) -> Result<(Request, &[u8]), ReadError>

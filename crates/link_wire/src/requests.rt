@@ -2,12 +2,12 @@ ghost use Rattle.std.specs.Prelude.{◌≡◌, ◌++◌, [], List, ℕ, IfOk, Ok
 ghost use Rattle.link_wire.specs.Bad.{Decodes};
 ghost use Rattle.link_wire.specs.Requests as spec;
 ghost use Rattle.link_wire.specs.Requests.{IsRequest, request_frame};
-ghost use Rattle.single_agent.specs.declared.request.Request.{Request};
+ghost use Rattle.agent_terms.specs.declared.request.Request.{Request};
 
 use crate::bad::{DecodeError, bad_at, field_error};
 use crate::frame::{Side, make_frame, read_frame};
 use crate::request_rows::{put_request, read_request};
-use single_agent::{Request, Why};
+use agent_terms::{Request, Why};
 use std::alloc::{AllocError, Global};
 
 fn kind_of(request: &Request) -> u8
@@ -39,7 +39,7 @@ pub fn encode_request(alloc: Global, request: &Request) -> Result<Vec<u8>, Alloc
 
 #[tactic(auto, unfolding(crate::specs::Frames::frame_at))]
 fn decode(alloc: Global, bytes: &[u8]) -> Result<Request, DecodeError>
-    ensures { Decodes result (spec.request_of bytes.now) }
+    ensures { Decodes result (spec.request_read bytes.now) }
 {
     let (kind, body) = read_frame(Side::Request, bytes)?;
     match read_request(alloc, kind, body) {
@@ -59,7 +59,7 @@ pub fn decode_request(alloc: Global, bytes: &[u8]) -> Result<Request, DecodeErro
     // What is spelled so is read, unless memory runs out.
     ensures only { (r : Request) → IsRequest r → bytes.now ≡ request_frame r → Decodes result (Ok r) }
     // Which fault it is, and where.
-    ensures exact { Decodes result (spec.request_of bytes.now) }
+    ensures exact { Decodes result (spec.request_read bytes.now) }
 {
     decode(alloc, bytes)
 }
