@@ -1,16 +1,16 @@
 //! What the attributes of a Location give and take (HTML Standard, 7.2.4, `href` and `origin`).
 ghost use Rattle.std.specs.Prelude.{◌≡◌, ◌<◌, IfOk};
 ghost use Rattle.origin_core.specs.Origin.{page_origin};
-ghost use Rattle.single_agent.specs.LocationAccess as spec;
-ghost use Rattle.single_agent.specs.Values.{text};
+ghost use Rattle.object_access.specs.LocationAccess as spec;
+ghost use Rattle.object_access.specs.Values.{text};
 
+use agent_terms::Outcome;
+use object_operations::set_href;
+use object_operations::values::{text, undefined};
 use origin_core::{origin_text, url_origin};
-use single_agent::Outcome;
 use std::alloc::{AllocError, Global};
 use tree_view::View;
 use window_props::{Platform, Value};
-use window_proxy::set_href;
-use window_proxy::values::{text, undefined};
 
 fn href_value<V: View>(alloc: Global, view: &V, doc: u32) -> Result<Value, AllocError>
     requires { doc < (V.tree view.now).docs }
@@ -37,7 +37,7 @@ fn origin_value<V: View>(alloc: Global, view: &V, doc: u32) -> Result<Value, All
 }
 
 /// What the getter of an attribute gives for the Location of a document.
-#[tactic(auto, unfolding(single_agent::specs::LocationAccess::location_value))]
+#[tactic(auto, unfolding(object_access::specs::LocationAccess::location_value))]
 pub(crate) fn location_value<V: View>(
     alloc: Global,
     view: &V,
@@ -55,7 +55,7 @@ pub(crate) fn location_value<V: View>(
 }
 
 /// What the setter of an attribute comes to for the Location of a document.
-#[tactic(auto, unfolding(single_agent::specs::LocationAccess::location_set))]
+#[tactic(auto, unfolding(object_access::specs::LocationAccess::location_set))]
 pub(crate) fn location_set<V: View>(
     alloc: Global,
     view: &V,

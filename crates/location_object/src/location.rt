@@ -1,14 +1,14 @@
 ghost use Rattle.std.specs.Prelude.{◌≡◌, ◌<◌};
-ghost use Rattle.single_agent.specs.LocationAccess as spec;
+ghost use Rattle.object_access.specs.LocationAccess as spec;
 
 use crate::attributes::{location_set, location_value};
 use crate::sending::send;
-use single_agent::Outcome;
+use agent_terms::Outcome;
+use object_operations::Met;
+use object_operations::values::undefined;
 use std::alloc::{AllocError, Global};
 use tree_view::View;
 use window_props::{Key, Kind, Method, Object, Value, named};
-use window_proxy::Met;
-use window_proxy::values::undefined;
 
 /// The Location of a document, as a document meets it.
 #[derive(Drop)]
@@ -18,7 +18,7 @@ pub struct LocationMet<'a, V> {
     pub doc: u32,
 }
 
-#[tactic(auto, unfolding(single_agent::specs::LocationAccess::location))]
+#[tactic(auto, unfolding(object_access::specs::LocationAccess::location))]
 impl<'a, V: View> Met for LocationMet<'a, V> {
     ghost tree = { λ m. V.tree m.view.now };
 

@@ -1,17 +1,17 @@
 ghost use Rattle.std.specs.Prelude.{◌≡◌, ◌<◌, true, IfOk, OnErr};
-ghost use Rattle.window_props.specs.Shown.{shown};
+ghost use Rattle.window_props.specs.Shown.{store_shown};
 ghost use Rattle.window_props.specs.Ordinary.{Define, Set, Delete};
-ghost use Rattle.single_agent.specs.Access as spec;
-ghost use Rattle.single_agent.specs.Methods.{called};
-ghost use Rattle.single_agent.specs.LocationAccess.{location};
-ghost use Rattle.window_proxy.specs.Verdict as ruling;
+ghost use Rattle.object_access.specs.Access as spec;
+ghost use Rattle.object_access.specs.Methods.{called};
+ghost use Rattle.object_access.specs.LocationAccess.{location};
+ghost use Rattle.object_access.specs.Verdict as ruling;
 
 use crate::location::LocationMet;
-use single_agent::{Op, Outcome, Ruling};
+use agent_terms::{Op, Outcome, Ruling};
+use object_operations::access;
 use std::alloc::{AllocError, Global};
 use tree_view::View;
 use window_props::{Change, Key, Props, Value};
-use window_proxy::access;
 
 /// Whether an operation on a document's Location is allowed, and else by which rule it is refused. It takes no memory.
 pub fn verdict<V: View>(view: &V, asker: u32, doc: u32, op: Op, key: &Key) -> Ruling
@@ -22,7 +22,7 @@ pub fn verdict<V: View>(view: &V, asker: u32, doc: u32, op: Op, key: &Key) -> Ru
     access::verdict(&LocationMet { view, asker, doc }, op, key)
 }
 
-/// How a property is described (HTML Standard, 7.2.4.3.5, [[GetOwnProperty]]).
+/// How a property is described (HTML Standard, 7.2.4.5, [[GetOwnProperty]]).
 pub fn own_property<V: View>(
     view: &V,
     props: &Props,
@@ -32,12 +32,12 @@ pub fn own_property<V: View>(
 ) -> Result<Outcome, AllocError>
     requires asker { asker < (V.tree view.now).docs }
     requires doc { doc < (V.tree view.now).docs }
-    ensures { IfOk result (λ o. o ≡ spec.described (location (V.tree view.now) (V.urls view.now) asker doc) (shown props.now) key.now) }
+    ensures { IfOk result (λ o. o ≡ spec.described (location (V.tree view.now) (V.urls view.now) asker doc) (store_shown props.now) key.now) }
 {
     access::own_property(&LocationMet { view, asker, doc }, props, key)
 }
 
-/// What a get answers (HTML Standard, 7.2.4.3.7, [[Get]]).
+/// What a get answers (HTML Standard, 7.2.4.7, [[Get]]).
 pub fn get<V: View>(
     alloc: Global,
     view: &V,
@@ -48,7 +48,7 @@ pub fn get<V: View>(
 ) -> Result<Outcome, AllocError>
     requires asker { asker < (V.tree view.now).docs }
     requires doc { doc < (V.tree view.now).docs }
-    ensures { IfOk result (λ o. o ≡ spec.got (location (V.tree view.now) (V.urls view.now) asker doc) (shown props.now) key.now) }
+    ensures { IfOk result (λ o. o ≡ spec.got (location (V.tree view.now) (V.urls view.now) asker doc) (store_shown props.now) key.now) }
 {
     access::get(alloc, &LocationMet { view, asker, doc }, props, key)
 }
@@ -63,12 +63,12 @@ pub fn has<V: View>(
 ) -> Result<Outcome, AllocError>
     requires asker { asker < (V.tree view.now).docs }
     requires doc { doc < (V.tree view.now).docs }
-    ensures { IfOk result (λ o. o ≡ spec.has (location (V.tree view.now) (V.urls view.now) asker doc) (shown props.now) key.now) }
+    ensures { IfOk result (λ o. o ≡ spec.has (location (V.tree view.now) (V.urls view.now) asker doc) (store_shown props.now) key.now) }
 {
     access::has(&LocationMet { view, asker, doc }, props, key)
 }
 
-/// What a set answers (HTML Standard, 7.2.4.3.8, [[Set]]). Every answer but true leaves the properties as they were, and
+/// What a set answers (HTML Standard, 7.2.4.8, [[Set]]). Every answer but true leaves the properties as they were, and
 /// so does an `Err`.
 pub fn set<V: View>(
     alloc: Global,
@@ -81,15 +81,15 @@ pub fn set<V: View>(
 ) -> Result<Outcome, AllocError>
     requires asker { asker < (V.tree view.now).docs }
     requires doc { doc < (V.tree view.now).docs }
-    ensures ok { IfOk result (λ o. o ≡ spec.set (location (V.tree view.now) (V.urls view.now) asker doc) (shown props.old) key.now value) }
-    ensures left { IfOk result (λ _. shown props.new ≡ spec.left (location (V.tree view.now) (V.urls view.now) asker doc) (shown props.old) key.now (Set value)) }
-    ensures kept { IfOk result (λ o. ¬ (o ≡ Outcome.Truth true) → shown props.new ≡ shown props.old) }
-    ensures err { OnErr result (shown props.new ≡ shown props.old) }
+    ensures ok { IfOk result (λ o. o ≡ spec.set (location (V.tree view.now) (V.urls view.now) asker doc) (store_shown props.old) key.now value) }
+    ensures left { IfOk result (λ _. store_shown props.new ≡ spec.store_left (location (V.tree view.now) (V.urls view.now) asker doc) (store_shown props.old) key.now (Set value)) }
+    ensures kept { IfOk result (λ o. ¬ (o ≡ Outcome.Truth true) → store_shown props.new ≡ store_shown props.old) }
+    ensures err { OnErr result (store_shown props.new ≡ store_shown props.old) }
 {
     access::set(alloc, &LocationMet { view, asker, doc }, props, key, value)
 }
 
-/// What a define answers (HTML Standard, 7.2.4.3.6, [[DefineOwnProperty]]). Every answer but true leaves the properties as
+/// What a define answers (HTML Standard, 7.2.4.6, [[DefineOwnProperty]]). Every answer but true leaves the properties as
 /// they were, and so does an `Err`.
 pub fn define<V: View>(
     view: &V,
@@ -101,27 +101,27 @@ pub fn define<V: View>(
 ) -> Result<Outcome, AllocError>
     requires asker { asker < (V.tree view.now).docs }
     requires doc { doc < (V.tree view.now).docs }
-    ensures ok { IfOk result (λ o. o ≡ spec.defined (location (V.tree view.now) (V.urls view.now) asker doc) (shown props.old) key.now change) }
-    ensures left { IfOk result (λ _. shown props.new ≡ spec.left (location (V.tree view.now) (V.urls view.now) asker doc) (shown props.old) key.now (Define change)) }
-    ensures kept { IfOk result (λ o. ¬ (o ≡ Outcome.Truth true) → shown props.new ≡ shown props.old) }
-    ensures err { OnErr result (shown props.new ≡ shown props.old) }
+    ensures ok { IfOk result (λ o. o ≡ spec.defined (location (V.tree view.now) (V.urls view.now) asker doc) (store_shown props.old) key.now change) }
+    ensures left { IfOk result (λ _. store_shown props.new ≡ spec.store_left (location (V.tree view.now) (V.urls view.now) asker doc) (store_shown props.old) key.now (Define change)) }
+    ensures kept { IfOk result (λ o. ¬ (o ≡ Outcome.Truth true) → store_shown props.new ≡ store_shown props.old) }
+    ensures err { OnErr result (store_shown props.new ≡ store_shown props.old) }
 {
     access::define(&LocationMet { view, asker, doc }, props, key, change)
 }
 
-/// What a delete answers (HTML Standard, 7.2.4.3.9, [[Delete]]). Every answer but true leaves the properties as they were.
+/// What a delete answers (HTML Standard, 7.2.4.9, [[Delete]]). Every answer but true leaves the properties as they were.
 /// It takes no memory.
 pub fn delete<V: View>(view: &V, props: &mut Props, asker: u32, doc: u32, key: &Key) -> Outcome
     requires asker { asker < (V.tree view.now).docs }
     requires doc { doc < (V.tree view.now).docs }
-    ensures ok { result ≡ spec.deleted (location (V.tree view.now) (V.urls view.now) asker doc) (shown props.old) key.now }
-    ensures left { shown props.new ≡ spec.left (location (V.tree view.now) (V.urls view.now) asker doc) (shown props.old) key.now Delete }
-    ensures kept { ¬ (result ≡ Outcome.Truth true) → shown props.new ≡ shown props.old }
+    ensures ok { result ≡ spec.deleted (location (V.tree view.now) (V.urls view.now) asker doc) (store_shown props.old) key.now }
+    ensures left { store_shown props.new ≡ spec.store_left (location (V.tree view.now) (V.urls view.now) asker doc) (store_shown props.old) key.now Delete }
+    ensures kept { ¬ (result ≡ Outcome.Truth true) → store_shown props.new ≡ store_shown props.old }
 {
     access::delete(&LocationMet { view, asker, doc }, props, key)
 }
 
-/// The keys of the properties, in order (HTML Standard, 7.2.4.3.10, [[OwnPropertyKeys]]).
+/// The keys of the properties, in order (HTML Standard, 7.2.4.10, [[OwnPropertyKeys]]).
 pub fn own_keys<V: View>(
     alloc: Global,
     view: &V,
@@ -131,12 +131,12 @@ pub fn own_keys<V: View>(
 ) -> Result<Outcome, AllocError>
     requires asker { asker < (V.tree view.now).docs }
     requires doc { doc < (V.tree view.now).docs }
-    ensures { IfOk result (λ o. o ≡ spec.keys (location (V.tree view.now) (V.urls view.now) asker doc) (shown props.now)) }
+    ensures { IfOk result (λ o. o ≡ spec.keys (location (V.tree view.now) (V.urls view.now) asker doc) (store_shown props.now)) }
 {
     access::own_keys(alloc, &LocationMet { view, asker, doc }, props)
 }
 
-/// The prototype (HTML Standard, 7.2.4.3.1, [[GetPrototypeOf]]): null for a document that isn't same origin-domain. It
+/// The prototype (HTML Standard, 7.2.4.1, [[GetPrototypeOf]]): null for a document that isn't same origin-domain. It
 /// takes no memory.
 pub fn prototype<V: View>(view: &V, _props: &Props, asker: u32, doc: u32) -> Outcome
     requires asker { asker < (V.tree view.now).docs }
@@ -159,7 +159,7 @@ pub fn call<V: View>(
 ) -> Result<Outcome, AllocError>
     requires asker { asker < (V.tree view.now).docs }
     requires doc { doc < (V.tree view.now).docs }
-    ensures { IfOk result (λ o. o ≡ called (V.tree view.now) (V.urls view.now) asker (location (V.tree view.now) (V.urls view.now) asker doc) (shown props.now) key.now args.now) }
+    ensures { IfOk result (λ o. o ≡ called (V.tree view.now) (V.urls view.now) asker (location (V.tree view.now) (V.urls view.now) asker doc) (store_shown props.now) key.now args.now) }
 {
     access::call(alloc, &LocationMet { view, asker, doc }, props, key, args)
 }

@@ -1,15 +1,15 @@
 //! `assign` and `replace` (HTML Standard, 7.2.4).
 ghost use Rattle.std.specs.Prelude.{◌≡◌, ◌<◌, IfOk};
-ghost use Rattle.single_agent.specs.Going.{go, or_else_outcome};
-ghost use Rattle.single_agent.specs.Methods.{sent};
-ghost use Rattle.single_agent.specs.Values.{undefined};
+ghost use Rattle.object_access.specs.Going.{go, or_else_outcome};
+ghost use Rattle.object_access.specs.Methods.{sent};
+ghost use Rattle.object_access.specs.Values.{undefined};
 
-use single_agent::Outcome;
+use agent_terms::Outcome;
+use object_operations::go;
+use object_operations::values::{text_of, undefined};
 use std::alloc::{AllocError, Global};
 use tree_view::View;
 use window_props::Value;
-use window_proxy::go;
-use window_proxy::values::{text_of, undefined};
 
 /// What `assign` on a document's Location answers: undefined where the document isn't active, and else `Ask`, `Syntax` or
 /// `SchemeOut`.
@@ -46,7 +46,7 @@ pub fn replace<V: View>(
 }
 
 /// What a call of `assign` or `replace` on a document's Location comes to: the first argument's text counts.
-#[tactic(auto, unfolding(single_agent::specs::Methods::sent))]
+#[tactic(auto, unfolding(object_access::specs::Methods::sent))]
 pub(crate) fn send<V: View>(
     alloc: Global,
     view: &V,

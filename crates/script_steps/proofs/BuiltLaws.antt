@@ -31,31 +31,32 @@ use Rattle.tree_log.specs.declared.entry.Entry.{Entry}
 use Rattle.tree_log.specs.Log.{prefix}
 use Rattle.tree_log.specs.Tree.{Tree, tree_of, is_active, nav_of}
 use Rattle.tree_log.specs.Urls.{url_of}
-use Rattle.single_agent.specs.declared.session.Session.{Session}
-use Rattle.single_agent.specs.declared.session.Page.{Page}
-use Rattle.single_agent.specs.declared.step.Operand.{Operand}
-use Rattle.single_agent.specs.declared.step.Step.{Step}
-use Rattle.single_agent.specs.declared.step.Step.TheVariants as step
-use Rattle.single_agent.specs.declared.act.Act.{Act}
-use Rattle.single_agent.specs.declared.act.Performed.TheVariants.{Ask}
-use Rattle.single_agent.specs.declared.act.Point.{Point}
-use Rattle.single_agent.specs.declared.act.Point.TheVariants.{Script, Handler}
-use Rattle.single_agent.specs.declared.act.Running.{Running}
-use Rattle.single_agent.specs.declared.outcome.Outcome.{Outcome}
-use Rattle.single_agent.specs.declared.outcome.Outcome.TheVariants as outcome
-use Rattle.single_agent.specs.declared.outcome.Rule.{Rule}
-use Rattle.single_agent.specs.declared.outcome.Rule.TheVariants.{S3, S4}
-use Rattle.single_agent.specs.declared.request.Request.{Request}
-use Rattle.single_agent.specs.declared.request.Request.TheVariants as request
+use Rattle.agent_terms.specs.declared.session.Session.{Session}
+use Rattle.agent_terms.specs.declared.session.Page.{Page}
+use Rattle.agent_terms.specs.declared.step.Operand.{Operand}
+use Rattle.agent_terms.specs.declared.step.Step.{Step}
+use Rattle.agent_terms.specs.declared.step.Step.TheVariants as step
+use Rattle.agent_terms.specs.declared.act.Act.{Act}
+use Rattle.agent_terms.specs.declared.act.Performed.TheVariants.{Ask}
+use Rattle.agent_terms.specs.declared.act.Point.{Point}
+use Rattle.agent_terms.specs.declared.act.Point.TheVariants.{Script, Handler}
+use Rattle.agent_terms.specs.declared.act.Running.{Running}
+use Rattle.agent_terms.specs.declared.outcome.Outcome.{Outcome}
+use Rattle.agent_terms.specs.declared.outcome.Outcome.TheVariants as outcome
+use Rattle.agent_terms.specs.declared.outcome.Rule.{Rule}
+use Rattle.agent_terms.specs.declared.outcome.Rule.TheVariants.{S3, S4}
+use Rattle.agent_terms.specs.declared.request.Request.{Request}
+use Rattle.agent_terms.specs.declared.request.Request.TheVariants as request
 use Rattle.single_agent.specs.Session.{steps_in, steps_at, steps_of}
-use Rattle.single_agent.specs.Access as access
-use Rattle.single_agent.specs.Access.{Seen, foreign_property}
-use Rattle.single_agent.specs.WindowAccess.{set_by, window_set, window_of, window}
-use Rattle.single_agent.specs.LocationAccess.{location_set, location}
-use Rattle.single_agent.specs.Methods.{if_own, built_in, run, run_found, run_got, called}
-use Rattle.single_agent.specs.StepAnswer.{Sight, held, operand_value, object_of, performed, on_object, frame_at, framed, dropped, perform, changed}
-use Rattle.single_agent.specs.NextAct.{Left, made_before, left_at, left_on, step_left, running, newest_length}
-use Rattle.script_steps.specs.Built.{asks_where_set, asks_where_called, is_built, IsBuilt, is_made, HasBuilt, AreBuilt}
+use Rattle.object_access.specs.Access as access
+use Rattle.object_access.specs.Access.{Seen, foreign_property}
+use Rattle.object_access.specs.WindowAccess.{set_by, window_set, window_of, window}
+use Rattle.object_access.specs.LocationAccess.{location_set, location}
+use Rattle.object_access.specs.Methods.{if_own, built_in, run, run_found, run_got, called}
+use Rattle.object_access.specs.StepAnswer.{Sight, held, operand_value, object_of, performed, on_object, frame_at, frame_step, drop_step, perform, step_stores}
+use Rattle.single_agent.specs.Running.{Left, made_before, left_at, left_on, step_left, running}
+use Rattle.single_agent.specs.Lengths.{newest_length}
+use Rattle.agent_terms.specs.Built.{asks_where_set, asks_where_called, is_built, IsBuilt, is_made, HasBuilt, AreBuilt}
 
 -- THE STEPS OF A SESSION
 
@@ -168,11 +169,11 @@ index_answers None at a h = truth_answers a
 
 defined_answers : (seen : Seen) (props : Store) (key : Key) (change : Change) → asks (access.defined seen props key change) ≡ false
 unfolding access.defined
-defined_answers seen props key change = if_none_asks seen.own _ _ (index_answers (seen.index key) (λ n. outcome.Truth false) (answer_in props (access.called key (Define change))) (λ n. refl)) refl
+defined_answers seen props key change = if_none_asks seen.own _ _ (index_answers (seen.index key) (λ n. outcome.Truth false) (answer_in props (access.call_of key (Define change))) (λ n. refl)) refl
 
 deleted_answers : (seen : Seen) (props : Store) (key : Key) → asks (access.deleted seen props key) ≡ false
 unfolding access.deleted
-deleted_answers seen props key = if_none_asks seen.own _ _ (index_answers (seen.index key) (λ n. outcome.Truth _) (answer_in props (access.called key Delete)) (λ n. refl)) refl
+deleted_answers seen props key = if_none_asks seen.own _ _ (index_answers (seen.index key) (λ n. outcome.Truth _) (answer_in props (access.call_of key Delete)) (λ n. refl)) refl
 
 -- a set asks only where the setter does
 set_answers : (seen : Seen) (props : Store) (key : Key) (v : Value) → asks (seen.setter key v) ≡ false → asks (access.set seen props key v) ≡ false
@@ -183,9 +184,9 @@ set_answers seen props key v h = if_none_asks seen.own _ _ (at (seen.index key))
   own settled.Setter = h
   own settled.TypeFault = refl
 
-  at : (i : Option ℕ) → asks (elim i as (λ _. Outcome) [ Some n ↦ outcome.Truth false | None ↦ access.settled_own seen key v (answer_in props (access.called key (Set v))) ]) ≡ false
+  at : (i : Option ℕ) → asks (elim i as (λ _. Outcome) [ Some n ↦ outcome.Truth false | None ↦ access.settled_own seen key v (answer_in props (access.call_of key (Set v))) ]) ≡ false
   at (Some n) = refl
-  at None = own (answer_in props (access.called key (Set v)))
+  at None = own (answer_in props (access.call_of key (Set v)))
 
   by : (b : Body) → asks (elim b as (λ _. Outcome) [ body.Value _ _ ↦ outcome.Security S4 | body.Accessor _ set ↦ if set then seen.setter key v else outcome.Security S4 ]) ≡ false
   by (body.Value w writable) = refl
@@ -347,12 +348,12 @@ module _ (see : Sight) (d : ℕ) (q : Request) where
   read_made name flags (Err url.SchemeOut) e = absurd cc
   read_made name flags (Err _) e = frame_made name flags None e
 
-  framed_made : (name : List ℕ) (flags : ℕ) (text : Option (List ℕ)) → framed see d name flags text ≡ Ask q → is_made q ≡ true
-  unfolding framed
+  framed_made : (name : List ℕ) (flags : ℕ) (text : Option (List ℕ)) → frame_step see d name flags text ≡ Ask q → is_made q ≡ true
+  unfolding frame_step
   framed_made name flags None e = frame_made name flags None e
   framed_made name flags (Some text) e = read_made name flags _ e
 
-  dropped_made : (nav : Option ℕ) → dropped d nav ≡ Ask q → is_made q ≡ true
+  dropped_made : (nav : Option ℕ) → drop_step d nav ≡ Ask q → is_made q ≡ true
   unfolding is_made
   dropped_made None e = absurd cc
   dropped_made (Some n) e = made_is (request.Drop d n) refl e
@@ -378,8 +379,8 @@ module _ (see : Sight) (d : ℕ) (q : Request) where
   made_by (step.Open text target noopener user to) built e = absurd cc
   made_by (step.Link text target rel user) built e = absurd cc
 
-  stays : (st : Step) → is_built st ≡ true → perform see d st ≡ Ask q → changed see d st ≡ see.stores
-  unfolding changed
+  stays : (st : Step) → is_built st ≡ true → perform see d st ≡ Ask q → step_stores see d st ≡ see.stores
+  unfolding step_stores
   stays (step.Set of key given user) built e = absurd (no_set of key given user built e)
   stays (step.Define of key given writable enumerable configurable) built e = absurd (no_define of key given writable enumerable configurable e)
   stays (step.Delete of key) built e = absurd (no_delete of key e)
@@ -390,5 +391,5 @@ pub made_by_built : (see : Sight) (d : ℕ) (st : Step) (q : Request) → is_bui
 made_by_built see d st q built e = made_by see d q st built e
 
 -- a built step that asks leaves the properties as they are
-pub unchanged_by_asking : (see : Sight) (d : ℕ) (st : Step) (q : Request) → is_built st ≡ true → perform see d st ≡ Ask q → changed see d st ≡ see.stores
+pub unchanged_by_asking : (see : Sight) (d : ℕ) (st : Step) (q : Request) → is_built st ≡ true → perform see d st ≡ Ask q → step_stores see d st ≡ see.stores
 unchanged_by_asking see d st q built e = stays see d q st built e

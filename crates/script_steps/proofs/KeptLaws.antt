@@ -4,7 +4,7 @@ use Rattle.std.specs.Prelude.{◌==◌, ◌&&◌, if◌then◌else◌, bytes_eq,
 use Rattle.std.proofs.lemmas.Bool.{eqb-true}
 use Rattle.window_props.specs.declared.value.Value.{Value}
 use Rattle.window_props.proofs.RowLaws.{yes, no}
-use Rattle.single_agent.specs.Values.{undefined}
+use Rattle.object_access.specs.Values.{undefined}
 use Rattle.script_steps.specs.declared.registers.Rows.{Rows}
 use Rattle.script_steps.specs.declared.registers.Row.{Row}
 use Rattle.script_steps.specs.Slots.{slot}

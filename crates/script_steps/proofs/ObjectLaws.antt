@@ -6,11 +6,11 @@ use Rattle.window_props.specs.declared.value.Value.{Value}
 use Rattle.window_props.specs.declared.value.Value.TheVariants as value
 use Rattle.window_props.specs.Ordinary.{Act}
 use Rattle.tree_log.specs.Tree.{Tree}
-use Rattle.single_agent.specs.declared.outcome.Outcome.{Outcome}
-use Rattle.single_agent.specs.declared.outcome.Outcome.TheVariants as outcome
-use Rattle.single_agent.specs.declared.act.Performed.TheVariants.{Answer}
-use Rattle.single_agent.specs.Access.{Seen, left}
-use Rattle.single_agent.specs.StepAnswer.{Sight, held, object_of, on_object, performed, changed_at}
+use Rattle.agent_terms.specs.declared.outcome.Outcome.{Outcome}
+use Rattle.agent_terms.specs.declared.outcome.Outcome.TheVariants as outcome
+use Rattle.agent_terms.specs.declared.act.Performed.TheVariants.{Answer}
+use Rattle.object_access.specs.Access.{Seen, store_left}
+use Rattle.object_access.specs.StepAnswer.{Sight, held, object_of, on_object, performed, changed_at}
 use Rattle.script_steps.specs.declared.reached.Reached.{Reached}
 use Rattle.script_steps.specs.declared.reached.Reached.TheVariants as reached
 use Rattle.script_steps.specs.Stored.{placed}
@@ -37,13 +37,13 @@ unfolding on_object
 on_none s d user of f h = ap (λ o. performed d user (elim o [ None ↦ outcome.TypeFault | Some seen ↦ f seen ])) (object_none s d (held s d of) h)
 
 pub changed_reached : (s : Sight) (d : ℕ) (of : List ℕ) (key : Key) (act : Act) (r : Reached) → Some r ≡ reached_of (held s d of)
-    → changed_at s d of key act ≡ placed (seen_of s.tree s.urls d r).object (left (seen_of s.tree s.urls d r) (s.stores (seen_of s.tree s.urls d r).object) key act) s.stores
+    → changed_at s d of key act ≡ placed (seen_of s.tree s.urls d r).object (store_left (seen_of s.tree s.urls d r) (s.stores (seen_of s.tree s.urls d r).object) key act) s.stores
 changed_reached s d of key act r h =
-    ap (λ o. elim o [ None ↦ s.stores | Some seen ↦ placed seen.object (left seen (s.stores seen.object) key act) s.stores ]) (object_reached s d (held s d of) r h)
+    ap (λ o. elim o [ None ↦ s.stores | Some seen ↦ placed seen.object (store_left seen (s.stores seen.object) key act) s.stores ]) (object_reached s d (held s d of) r h)
 
 pub changed_none : (s : Sight) (d : ℕ) (of : List ℕ) (key : Key) (act : Act) → None ≡ reached_of (held s d of) → changed_at s d of key act ≡ s.stores
 changed_none s d of key act h =
-    ap (λ o. elim o [ None ↦ s.stores | Some seen ↦ placed seen.object (left seen (s.stores seen.object) key act) s.stores ]) (object_none s d (held s d of) h)
+    ap (λ o. elim o [ None ↦ s.stores | Some seen ↦ placed seen.object (store_left seen (s.stores seen.object) key act) s.stores ]) (object_none s d (held s d of) h)
 
 -- what a value reaches is there where the value is
 pub reached_there : (t : Tree) (v : Value) → IsValueThere t v → IfSome (reached_of v) (IsThere t)

@@ -7,7 +7,7 @@ use Rattle.window_props.specs.declared.platform.Object.TheVariants as object
 use Rattle.window_props.specs.declared.props.Props.{Props}
 use Rattle.window_props.specs.Values.{same_object}
 use Rattle.window_props.specs.History.{Store}
-use Rattle.window_props.specs.Shown.{shown}
+use Rattle.window_props.specs.Shown.{store_shown}
 use Rattle.window_props.proofs.RowLaws.{yes, no}
 use Rattle.script_steps.specs.declared.stores.Stores.{Stores}
 use Rattle.script_steps.specs.Stored.{props_at, store_in, stored, placed}
@@ -25,11 +25,11 @@ stored_same old new h = λ i o. store_in o (h o i)
 -- one object's properties are kept instead
 pub stored_put : (old new : Stores) (o : Object) (p : Props)
     → ((other : Object) → props_at new other ≡ (if same_object other o then Some p else props_at old other))
-    → stored new ≡ placed o (shown p) (stored old)
+    → stored new ≡ placed o (store_shown p) (stored old)
 unfolding stored
 stored_put old new o p h = λ i other. by other (same_object other o) refl i
   where
-    by : (other : Object) (b : Bool) → same_object other o ≡ b → store_in other (props_at new other) ≡ (if same_object other o then shown p else store_in other (props_at old other))
+    by : (other : Object) (b : Bool) → same_object other o ≡ b → store_in other (props_at new other) ≡ (if same_object other o then store_shown p else store_in other (props_at old other))
     by other true e = ap (λ s. store_in other s) (h other ∙ yes _ _ _ e) ∙ sym (yes _ _ _ e)
     by other false e = ap (λ s. store_in other s) (h other ∙ no _ _ _ e) ∙ sym (no _ _ _ e)
 

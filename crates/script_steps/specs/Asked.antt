@@ -1,14 +1,13 @@
 -- What is asked of an object, and what is done on it, as definitions of access.
-use Rattle.std.specs.Prelude.{ℕ, List, not, true, false}
+use Rattle.std.specs.Prelude.{ℕ, List}
 use Rattle.window_props.specs.declared.key.Key.{Key}
 use Rattle.window_props.specs.Ordinary.{Act, Define, Set, Delete}
 use Rattle.window_props.specs.History.{Store}
 use Rattle.tree_log.specs.Tree.{Tree}
-use Rattle.single_agent.specs.declared.outcome.Outcome.{Outcome}
-use Rattle.single_agent.specs.declared.outcome.Outcome.TheVariants as outcome
-use Rattle.single_agent.specs.Access as access
-use Rattle.single_agent.specs.Access.{Seen}
-use Rattle.single_agent.specs.Methods.{called}
+use Rattle.agent_terms.specs.declared.outcome.Outcome.{Outcome}
+use Rattle.object_access.specs.Access as access
+use Rattle.object_access.specs.Access.{Seen}
+use Rattle.object_access.specs.Methods.{called}
 use Rattle.script_steps.specs.declared.objects.Reading.{Reading}
 use Rattle.script_steps.specs.declared.objects.Reading.TheVariants as reading
 use Rattle.script_steps.specs.declared.objects.Looking.{Looking}
@@ -25,9 +24,9 @@ asked t urls asker (reading.Call key args) seen store = called t urls asker seen
 
 abbrev pub looked : Looking → Seen → Outcome
 looked looking.Proto seen = access.prototype seen
-looked looking.SetProto seen = outcome.Truth (not seen.own)
-looked looking.Extensible seen = outcome.Truth true
-looked looking.Prevent seen = outcome.Truth false
+looked looking.SetProto seen = access.prototype_set seen
+looked looking.Extensible seen = access.extensible seen
+looked looking.Prevent seen = access.prevented seen
 
 abbrev pub act_of : Changing → Act
 act_of (changing.Set v) = Set v

@@ -1,7 +1,7 @@
 -- What registers hold, by the documents and their names.
 use Rattle.std.specs.Prelude.{ℕ, List, [], Option, Some, None, unwrap_or}
 use Rattle.window_props.specs.declared.value.Value.{Value}
-use Rattle.single_agent.specs.Values.{undefined}
+use Rattle.object_access.specs.Values.{undefined}
 use Rattle.script_steps.specs.declared.registers.Registers.{Registers}
 use Rattle.script_steps.specs.declared.registers.Rows.{Rows}
 use Rattle.script_steps.specs.declared.registers.Row.{Row}

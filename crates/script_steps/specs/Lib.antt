@@ -4,4 +4,3 @@ pub mod Kept
 pub mod Stored
 pub mod Reached
 pub mod Asked
-pub mod Built

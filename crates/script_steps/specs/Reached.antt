@@ -5,10 +5,10 @@ use Rattle.window_props.specs.declared.value.Value.TheVariants as value
 use Rattle.window_props.specs.declared.platform.Object.{Object}
 use Rattle.window_props.specs.History.{Store}
 use Rattle.tree_log.specs.Tree.{Tree}
-use Rattle.single_agent.specs.Access.{Seen}
-use Rattle.single_agent.specs.WindowAccess.{window}
-use Rattle.single_agent.specs.LocationAccess.{location}
-use Rattle.single_agent.specs.StepAnswer.{Sight}
+use Rattle.object_access.specs.Access.{Seen}
+use Rattle.object_access.specs.WindowAccess.{window}
+use Rattle.object_access.specs.LocationAccess.{location}
+use Rattle.object_access.specs.StepAnswer.{Sight}
 use Rattle.script_steps.specs.declared.reached.Reached.{Reached}
 use Rattle.script_steps.specs.declared.reached.Reached.TheVariants as reached
 

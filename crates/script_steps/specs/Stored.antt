@@ -5,7 +5,7 @@ use Rattle.window_props.specs.declared.platform.Object.TheVariants as object
 use Rattle.window_props.specs.declared.props.Props.{Props}
 use Rattle.window_props.specs.Values.{same_object}
 use Rattle.window_props.specs.History.{Store, store_of}
-use Rattle.window_props.specs.Shown.{shown}
+use Rattle.window_props.specs.Shown.{store_shown}
 use Rattle.script_steps.specs.declared.stores.Stores.{Stores}
 use Rattle.script_steps.specs.Slots.{slot}
 
@@ -16,7 +16,7 @@ props_at s (object.Location d) = slot s.locations.slots.items d
 -- those that the platform makes, where nothing is kept
 abbrev pub store_in : Object → Option Props → Store
 store_in o None = store_of o []
-store_in o (Some p) = shown p
+store_in o (Some p) = store_shown p
 
 unfoldable pub stored : Stores → Object → Store
 stored s o = store_in o (props_at s o)

@@ -1,24 +1,25 @@
-ghost use Rattle.std.specs.Prelude.{◌≡◌, false, option_copied, unwrap_or, IfOk, IfSome, OnErr};
+ghost use Rattle.std.specs.Prelude.{◌≡◌, ◌<◌, false, IfOk, IfSome, OnErr};
 ghost use Rattle.window_props.specs.declared.platform.Object.{Object};
 ghost use Rattle.window_props.specs.History.{Store};
-ghost use Rattle.single_agent.specs.Values.{undefined};
-ghost use Rattle.single_agent.specs.StepAnswer as spec;
+ghost use Rattle.object_access.specs.Access.{store_left};
+ghost use Rattle.object_access.specs.StepAnswer as spec;
 ghost use Rattle.script_steps.specs.Kept.{kept};
-ghost use Rattle.script_steps.specs.Stored.{stored};
-ghost use Rattle.script_steps.specs.Reached.{sight, reached_of, IsThere, Fits};
+ghost use Rattle.script_steps.specs.Stored.{placed, stored};
+ghost use Rattle.script_steps.specs.Reached.{sight, seen_of, reached_of, IsThere, Fits};
 ghost use Rattle.script_steps.specs.Asked.{asked, looked, act_of, done};
 
 use crate::asking::performed;
 use crate::objects::{Changing, Looking, Reading, change, look, read};
-use crate::reached::{Reached, ReachedMet};
+use crate::reached::{Reached, reached_value};
 use crate::registers::Registers;
 use crate::stores::Stores;
+use agent_terms::{Operand, Outcome, Performed};
+use location_object::LocationMet;
 use plain_data::Data;
-use single_agent::{Operand, Outcome, Performed};
 use std::alloc::{AllocError, Global};
 use tree_view::View;
 use window_props::{Key, Value};
-use window_proxy::Met;
+use window_proxy::WindowMet;
 
 /// A document whose script runs, with what its steps go by.
 #[derive(Drop)]
@@ -29,24 +30,9 @@ pub(crate) struct Agent<'a, V> {
     pub doc: u32,
 }
 
-fn reached_value(value: Option<&Value>) -> Option<Reached>
-    ensures { result ≡ reached_of (unwrap_or (option_copied value.entry) undefined) }
-{
-    match value {
-        Some(value) => match value {
-            Value::Window(nav) => Some(Reached::Window(*nav)),
-            Value::Location(doc) => Some(Reached::Location(*doc)),
-            Value::Plain(_) => None,
-            Value::Function(_, _) => None,
-            Value::Prototype(_) => None,
-        },
-        None => None,
-    }
-}
-
 impl<'a, V: View> Agent<'a, V> {
     // What a register holds.
-    #[tactic(auto, unfolding(single_agent::specs::StepAnswer::held))]
+    #[tactic(auto, unfolding(object_access::specs::StepAnswer::held))]
     fn held(&self, name: &str) -> Result<Value, AllocError>
         requires { Fits (V.tree self.now.view.now) (kept self.now.registers.now) self.now.doc }
         ensures { IfOk result (λ v. (stores : Object → Store) → v ≡ spec.held (sight (V.tree self.now.view.now) (V.urls self.now.view.now) (kept self.now.registers.now) stores) self.now.doc name.now) }
@@ -61,7 +47,7 @@ impl<'a, V: View> Agent<'a, V> {
     }
 
     /// What an operand comes to.
-    #[tactic(auto, unfolding(single_agent::specs::StepAnswer::operand_value))]
+    #[tactic(auto, unfolding(object_access::specs::StepAnswer::operand_value))]
     pub(crate) fn operand(&self, given: &Operand) -> Result<Value, AllocError>
         requires { Fits (V.tree self.now.view.now) (kept self.now.registers.now) self.now.doc }
         ensures { IfOk result (λ v. (stores : Object → Store) → v ≡ spec.operand_value (sight (V.tree self.now.view.now) (V.urls self.now.view.now) (kept self.now.registers.now) stores) self.now.doc given.now) }
@@ -73,7 +59,7 @@ impl<'a, V: View> Agent<'a, V> {
     }
 
     // The object that a register holds.
-    #[tactic(auto, unfolding(single_agent::specs::StepAnswer::held))]
+    #[tactic(auto, unfolding(object_access::specs::StepAnswer::held))]
     fn reached(&self, of: &str) -> Option<Reached>
         requires { Fits (V.tree self.now.view.now) (kept self.now.registers.now) self.now.doc }
         ensures value { (stores : Object → Store) → result ≡ reached_of (spec.held (sight (V.tree self.now.view.now) (V.urls self.now.view.now) (kept self.now.registers.now) stores) self.now.doc of.now) }
@@ -86,6 +72,84 @@ impl<'a, V: View> Agent<'a, V> {
             return None;
         }
         reached_value(self.registers.find(self.doc, of))
+    }
+
+    // The Window of a navigable, as the document meets it.
+    fn window(&self, nav: u32) -> WindowMet<'a, V>
+        ensures { result ≡ record { view = self.now.view; asker = self.now.doc; nav = nav } }
+    {
+        WindowMet {
+            view: self.view,
+            asker: self.doc,
+            nav,
+        }
+    }
+
+    // The Location of a document, as the document meets it.
+    fn location(&self, doc: u32) -> LocationMet<'a, V>
+        ensures { result ≡ record { view = self.now.view; asker = self.now.doc; doc = doc } }
+    {
+        LocationMet {
+            view: self.view,
+            asker: self.doc,
+            doc,
+        }
+    }
+
+    fn read_reached(
+        &self,
+        stores: &mut Stores,
+        reached: Reached,
+        reading: Reading<'_>,
+    ) -> Result<Outcome, AllocError>
+        requires asker { self.now.doc < (V.tree self.now.view.now).docs }
+        requires there { IsThere (V.tree self.now.view.now) reached }
+        ensures ok { let seen = seen_of (V.tree self.now.view.now) (V.urls self.now.view.now) self.now.doc reached in
+            IfOk result (λ o. o ≡ asked (V.tree self.now.view.now) (V.urls self.now.view.now) self.now.doc reading.entry seen (stored stores.old seen.object)) }
+        ensures same { stored stores.new ≡ stored stores.old }
+    {
+        match reached {
+            Reached::Window(nav) => read(self.alloc, &self.window(nav), stores, reading),
+            Reached::Location(doc) => read(self.alloc, &self.location(doc), stores, reading),
+        }
+    }
+
+    fn look_reached(&self, reached: Reached, looking: Looking) -> Outcome
+        requires asker { self.now.doc < (V.tree self.now.view.now).docs }
+        requires there { IsThere (V.tree self.now.view.now) reached }
+        ensures { result ≡ looked looking (seen_of (V.tree self.now.view.now) (V.urls self.now.view.now) self.now.doc reached) }
+    {
+        match reached {
+            Reached::Window(nav) => look(&self.window(nav), looking),
+            Reached::Location(doc) => look(&self.location(doc), looking),
+        }
+    }
+
+    fn change_reached(
+        &self,
+        stores: &mut Stores,
+        reached: Reached,
+        key: &Key,
+        changing: Changing,
+    ) -> Result<Outcome, AllocError>
+        requires asker { self.now.doc < (V.tree self.now.view.now).docs }
+        requires there { IsThere (V.tree self.now.view.now) reached }
+        ensures ok { let seen = seen_of (V.tree self.now.view.now) (V.urls self.now.view.now) self.now.doc reached in
+            IfOk result (λ o. o ≡ done changing seen (stored stores.old seen.object) key.now) }
+        ensures left { let seen = seen_of (V.tree self.now.view.now) (V.urls self.now.view.now) self.now.doc reached in
+            IfOk result (λ _. stored stores.new ≡ placed seen.object (store_left seen (stored stores.old seen.object) key.now (act_of changing)) (stored stores.old)) }
+        ensures err { OnErr result (stored stores.new ≡ stored stores.old) }
+    {
+        match reached {
+            Reached::Window(nav) => change(self.alloc, &self.window(nav), stores, key, changing),
+            Reached::Location(doc) => change(
+                self.alloc,
+                &self.location(doc),
+                stores,
+                key,
+                changing,
+            ),
+        }
     }
 
     /// What is answered of an object's properties.
@@ -104,14 +168,7 @@ impl<'a, V: View> Agent<'a, V> {
             Some(reached) => reached,
             None => return Ok(Performed::Answer(Outcome::TypeFault)),
         };
-        let met = ReachedMet {
-            view: self.view,
-            asker: self.doc,
-            reached,
-        };
-        let object = met.object();
-        stores.ready(object)?;
-        let outcome = read(self.alloc, &met, stores.props(object), reading)?;
+        let outcome = self.read_reached(stores, reached, reading)?;
         Ok(performed(self.doc, user, outcome))
     }
 
@@ -124,12 +181,7 @@ impl<'a, V: View> Agent<'a, V> {
             Some(reached) => reached,
             None => return Performed::Answer(Outcome::TypeFault),
         };
-        let met = ReachedMet {
-            view: self.view,
-            asker: self.doc,
-            reached,
-        };
-        performed(self.doc, false, look(&met, looking))
+        performed(self.doc, false, self.look_reached(reached, looking))
     }
 
     /// What is answered as a property is changed.
@@ -150,16 +202,7 @@ impl<'a, V: View> Agent<'a, V> {
             Some(reached) => reached,
             None => return Ok(Performed::Answer(Outcome::TypeFault)),
         };
-        let met = ReachedMet {
-            view: self.view,
-            asker: self.doc,
-            reached,
-        };
-        let object = met.object();
-        stores.ready(object)?;
-        let mut props = stores.take(object);
-        let outcome = change(self.alloc, &met, &mut props, key, changing);
-        stores.put(object, props);
-        Ok(performed(self.doc, user, outcome?))
+        let outcome = self.change_reached(stores, reached, key, changing)?;
+        Ok(performed(self.doc, user, outcome))
     }
 }

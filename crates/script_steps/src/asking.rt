@@ -1,12 +1,12 @@
 //! Requests to the coordinator.
 ghost use Rattle.std.specs.Prelude.{◌≡◌};
-ghost use Rattle.single_agent.specs.StepAnswer as spec;
+ghost use Rattle.object_access.specs.StepAnswer as spec;
 
-use single_agent::{Ask, Outcome, Performed, Request};
+use agent_terms::{Ask, Outcome, Performed, Request};
 
 // Who wants it, and whether a person caused it.
 fn request_of(asker: u32, user: bool, ask: Ask) -> Request
-    ensures { result ≡ spec.request_of asker user ask }
+    ensures { result ≡ spec.request_for asker user ask }
 {
     match ask {
         Ask::Go { doc, url } => Request::Go {

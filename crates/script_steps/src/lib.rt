@@ -3,7 +3,6 @@
 
 mod agent;
 mod asking;
-mod building;
 mod loading;
 mod objects;
 mod reached;
@@ -11,12 +10,9 @@ mod registers;
 mod slots;
 mod steps;
 mod stores;
-#[cfg(test)]
-mod tests;
 mod words;
 
-pub use building::built;
+pub use agent_terms::{Act, Answer, OpName, Operand, Page, Performed, Point, Step};
 pub use registers::Registers;
-pub use single_agent::{Act, Answer, OpName, Operand, Page, Performed, Point, Step};
 pub use steps::local;
 pub use stores::Stores;

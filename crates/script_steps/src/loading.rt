@@ -4,7 +4,7 @@ ghost use Rattle.std.specs.Option.{option_map_or};
 ghost use Rattle.origin_core.specs.Flags.{flags_of};
 ghost use Rattle.origin_core.specs.Page.{read_page};
 ghost use Rattle.tree_log.specs.Tree.{children_of};
-ghost use Rattle.single_agent.specs.StepAnswer as spec;
+ghost use Rattle.object_access.specs.StepAnswer as spec;
 ghost use Rattle.window_props.specs.declared.value.Value.{Value as Held};
 ghost use Rattle.window_props.specs.declared.platform.Object.{Object};
 ghost use Rattle.window_props.specs.History.{Store};
@@ -12,9 +12,9 @@ ghost use Rattle.script_steps.specs.Reached.{sight};
 
 use crate::agent::Agent;
 use crate::words::gives_no_opener;
+use agent_terms::{Outcome, Performed, Request};
 use origin_core::{Flags, UrlError, flags_of, read_url};
 use plain_data::{Data, Text};
-use single_agent::{Outcome, Performed, Request};
 use std::alloc::{AllocError, Global};
 use tree_view::View;
 use window_props::Value;
@@ -80,7 +80,7 @@ impl<'a, V: View> Agent<'a, V> {
     }
 
     /// Makes a frame. One whose URL isn't readable loads nothing.
-    #[tactic(auto, unfolding(single_agent::specs::StepAnswer::framed))]
+    #[tactic(auto, unfolding(object_access::specs::StepAnswer::frame_step))]
     pub(crate) fn frame(
         &self,
         url: &Option<Text>,
@@ -88,7 +88,7 @@ impl<'a, V: View> Agent<'a, V> {
         sandbox: &Option<Text>,
     ) -> Result<Performed, AllocError>
         requires { self.now.doc < (V.tree self.now.view.now).docs }
-        ensures { IfOk result (λ p. (registers : ℕ → List ℕ → Held) (stores : Object → Store) → p ≡ spec.framed (sight (V.tree self.now.view.now) (V.urls self.now.view.now) registers stores) self.now.doc (unwrap_or name.now []) (option_map_or flags_of sandbox.now 0) (spec.if_any url.now)) }
+        ensures { IfOk result (λ p. (registers : ℕ → List ℕ → Held) (stores : Object → Store) → p ≡ spec.frame_step (sight (V.tree self.now.view.now) (V.urls self.now.view.now) registers stores) self.now.doc (unwrap_or name.now []) (option_map_or flags_of sandbox.now 0) (spec.if_any url.now)) }
     {
         let asker = self.doc;
         let name = or_empty(self.alloc, name)?;
@@ -107,7 +107,7 @@ impl<'a, V: View> Agent<'a, V> {
     /// Takes the frame with an index out of the document. It takes no memory.
     pub(crate) fn drop_frame(&self, index: u32) -> Performed
         requires { self.now.doc < (V.tree self.now.view.now).docs }
-        ensures { result ≡ spec.dropped self.now.doc (slice_get (children_of (V.tree self.now.view.now) self.now.doc) index) }
+        ensures { result ≡ spec.drop_step self.now.doc (slice_get (children_of (V.tree self.now.view.now) self.now.doc) index) }
     {
         match self.view.child_at(self.doc, index) {
             Some(nav) => Performed::Ask(Request::Drop {
@@ -144,7 +144,7 @@ impl<'a, V: View> Agent<'a, V> {
     }
 
     /// Opens a window, or finds one.
-    #[tactic(auto, unfolding(single_agent::specs::StepAnswer::opened))]
+    #[tactic(auto, unfolding(object_access::specs::StepAnswer::open_step))]
     pub(crate) fn open(
         &self,
         url: &Option<Text>,
@@ -153,7 +153,7 @@ impl<'a, V: View> Agent<'a, V> {
         user: bool,
     ) -> Result<Performed, AllocError>
         requires { self.now.doc < (V.tree self.now.view.now).docs }
-        ensures { IfOk result (λ p. (registers : ℕ → List ℕ → Held) (stores : Object → Store) → p ≡ spec.opened (sight (V.tree self.now.view.now) (V.urls self.now.view.now) registers stores) self.now.doc target.now noopener user (spec.if_any url.now)) }
+        ensures { IfOk result (λ p. (registers : ℕ → List ℕ → Held) (stores : Object → Store) → p ≡ spec.open_step (sight (V.tree self.now.view.now) (V.urls self.now.view.now) registers stores) self.now.doc target.now noopener user (spec.if_any url.now)) }
     {
         let asker = self.doc;
         let target = target.clone()?;

@@ -1,6 +1,6 @@
 ghost use Rattle.std.specs.Prelude.{◌≡◌, [], ◌∷◌, ◌++◌, None, MatchOption, bytes_eq, unwrap_or, option_copied, OnOk, OnErr, IfOk};
-ghost use Rattle.single_agent.specs.Values.{undefined};
-ghost use Rattle.single_agent.specs.Registers.{unset, written};
+ghost use Rattle.object_access.specs.Values.{undefined};
+ghost use Rattle.object_access.specs.Registers.{unset, written};
 ghost use Rattle.script_steps.specs.Rows.{found, IsPlace, IsWritten};
 
 use crate::slots::Slots;

@@ -3,9 +3,9 @@ ghost use Rattle.std.specs.Option.{option_map};
 ghost use Rattle.window_props.specs.declared.platform.Object.{Object};
 ghost use Rattle.window_props.specs.History.{Store};
 ghost use Rattle.window_props.specs.Ordinary.{Define, Set};
-ghost use Rattle.single_agent.specs.Access as access;
-ghost use Rattle.single_agent.specs.Methods.{called};
-ghost use Rattle.single_agent.specs.StepAnswer as spec;
+ghost use Rattle.object_access.specs.Access as access;
+ghost use Rattle.object_access.specs.Methods.{called};
+ghost use Rattle.object_access.specs.StepAnswer as spec;
 ghost use Rattle.script_steps.specs.Kept.{kept};
 ghost use Rattle.script_steps.specs.Stored.{stored};
 ghost use Rattle.script_steps.specs.Reached.{sight, Fits};
@@ -14,8 +14,8 @@ use crate::agent::Agent;
 use crate::objects::{Changing, Looking, Reading};
 use crate::registers::Registers;
 use crate::stores::Stores;
+use agent_terms::{Operand, Outcome, Performed, Request, Step};
 use plain_data::{Items, Text};
-use single_agent::{Operand, Outcome, Performed, Request, Step};
 use std::alloc::{AllocError, Global};
 use tree_view::View;
 use window_props::{Change, Key, Value};
@@ -120,7 +120,7 @@ struct Given<'a> {
 /// leaves the registers; the caller writes the step's `to`.
 ///
 /// Only a set, a define or a delete on the document's own objects changes what is stored. After an `Err` it is as before.
-#[tactic(auto, unfolding(single_agent::specs::StepAnswer::perform, single_agent::specs::StepAnswer::changed))]
+#[tactic(auto, unfolding(object_access::specs::StepAnswer::perform, object_access::specs::StepAnswer::step_stores))]
 pub fn local<V: View>(
     alloc: Global,
     step: &Step,
@@ -131,7 +131,7 @@ pub fn local<V: View>(
 ) -> Result<Performed, AllocError>
     requires { Fits (V.tree view.now) (kept registers.now) doc }
     ensures ok { IfOk result (λ p. p ≡ spec.perform (sight (V.tree view.now) (V.urls view.now) (kept registers.now) (stored stores.old)) doc step.now) }
-    ensures left { IfOk result (λ _. stored stores.new ≡ spec.changed (sight (V.tree view.now) (V.urls view.now) (kept registers.now) (stored stores.old)) doc step.now) }
+    ensures left { IfOk result (λ _. stored stores.new ≡ spec.step_stores (sight (V.tree view.now) (V.urls view.now) (kept registers.now) (stored stores.old)) doc step.now) }
     ensures err { OnErr result (stored stores.new ≡ stored stores.old) }
 {
     let agent = Agent {

@@ -1,8 +1,8 @@
 ghost use Rattle.std.specs.Prelude.{◌≡◌, Some, false, option_copied, IfOk, OnOk, OnErr, if◌then◌else◌};
-ghost use Rattle.window_props.specs.Shown.{shown};
+ghost use Rattle.window_props.specs.Shown.{store_shown};
 ghost use Rattle.window_props.specs.Values.{same_object};
 ghost use Rattle.window_props.specs.declared.platform.Object.{Object};
-ghost use Rattle.single_agent.specs.StepAnswer.{first_stores};
+ghost use Rattle.object_access.specs.StepAnswer.{first_stores};
 
 use crate::slots::Slots;
 use std::alloc::{AllocError, Global};
@@ -94,7 +94,7 @@ impl Stores {
     /// An object's properties.
     pub(crate) fn props(&self, object: Object) -> &Props
         requires { IsReady self.now object }
-        ensures { shown result.now ≡ stored self.now object }
+        ensures { store_shown result.now ≡ stored self.now object }
     {
         self.get(object).unwrap()
     }
@@ -102,7 +102,7 @@ impl Stores {
     /// Takes an object's properties out, so that they can be changed and put back.
     pub(crate) fn take(&mut self, object: Object) -> Props
         requires { IsReady self.old object }
-        ensures value { shown result ≡ stored self.old object }
+        ensures value { store_shown result ≡ stored self.old object }
         ensures rest { (other : Object) → same_object other object ≡ false → stored self.new other ≡ stored self.old other }
         ensures room { HasRoom self.new object }
     {
@@ -112,7 +112,7 @@ impl Stores {
     /// Puts an object's properties back.
     pub(crate) fn put(&mut self, object: Object, props: Props)
         requires { HasRoom self.old object }
-        ensures { stored self.new ≡ placed object (shown props) (stored self.old) }
+        ensures { stored self.new ≡ placed object (store_shown props) (stored self.old) }
     {
         self.put_kept(object, props);
     }

@@ -1,7 +1,7 @@
 //! Words of a link's relations (HTML Standard, 4.6.4).
 ghost use Rattle.std.specs.Prelude.{◌≡◌};
 ghost use Rattle.origin_core.specs.Flags as spec;
-ghost use Rattle.single_agent.specs.StepAnswer.{gives_no_opener};
+ghost use Rattle.object_access.specs.StepAnswer.{gives_no_opener};
 
 // Whether a text is one of words that ASCII white space parts.
 fn has_keyword(text: &str, word: &str) -> bool

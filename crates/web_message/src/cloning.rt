@@ -1,4 +1,4 @@
-ghost use Rattle.std.specs.Prelude.{◌≡◌, IfOk};
+ghost use Rattle.std.specs.Prelude.{◌≡◌, ◌↔◌, None, IfOk};
 ghost use Rattle.web_message.specs.Cloning.{data_of};
 
 use plain_data::Data;
@@ -17,10 +17,10 @@ pub enum CloneError {
 
 /// The data that a message takes of a value (HTML Standard, 2.7.3, StructuredSerializeInternal): a copy.
 ///
-/// `DataClone` comes exactly where the value is an object of the platform.
+/// `DataClone` comes exactly where the value is an object of the platform, however much memory there is.
 pub fn clone_of(value: &Value) -> Result<Data, CloneError>
     ensures ok { IfOk result (λ copy. data_of value.now ≡ Some copy) }
-    ensures data_clone { result ≡ Err CloneError.DataClone → data_of value.now ≡ None }
+    ensures data_clone { (result ≡ Err CloneError.DataClone) ↔ (data_of value.now ≡ None) }
 {
     match value {
         Value::Plain(data) => match data.clone() {

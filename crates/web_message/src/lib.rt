@@ -4,8 +4,6 @@
 
 mod cloning;
 mod target;
-#[cfg(test)]
-mod tests;
 
 pub use cloning::{CloneError, clone_of};
 pub use target::{TargetError, target_of};

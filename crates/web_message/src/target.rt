@@ -1,5 +1,5 @@
 ghost use Rattle.std.specs.Prelude.{◌≡◌, IfOk};
-ghost use Rattle.single_agent.specs.Methods as spec;
+ghost use Rattle.object_access.specs.Methods as spec;
 
 use origin_core::{Origin, UrlError, read_origin};
 use std::alloc::Global;
@@ -20,7 +20,7 @@ pub enum TargetError {
 /// the sender, `*` any, and a URL that of the URL. An origin that is neither http nor https is one that no document has.
 ///
 /// `Syntax` comes exactly where the text is another one and no URL, or the URL's origin is over 1,024 bytes long.
-#[tactic(auto, unfolding(single_agent::specs::Methods::target_of))]
+#[tactic(auto, unfolding(object_access::specs::Methods::target_of))]
 pub fn target_of(alloc: Global, text: &str, sender: &Origin) -> Result<Target, TargetError>
     ensures ok { IfOk result (λ target. spec.target_of sender.now text.now ≡ Some target) }
     ensures syntax { result ≡ Err TargetError.Syntax → spec.target_of sender.now text.now ≡ None }

@@ -4,9 +4,9 @@ use Rattle.plain_data.specs.declared.data.Data.{Data}
 use Rattle.window_props.specs.declared.value.Value.{Value}
 use Rattle.window_props.specs.declared.value.Value.TheVariants as value
 use Rattle.tree_log.specs.declared.entry.Target.{Target}
-use Rattle.single_agent.specs.declared.outcome.Outcome.TheVariants as outcome
-use Rattle.single_agent.specs.declared.outcome.Ask.TheVariants as ask
-use Rattle.single_agent.specs.Methods.{posted_clone}
+use Rattle.agent_terms.specs.declared.outcome.Outcome.TheVariants as outcome
+use Rattle.agent_terms.specs.declared.outcome.Ask.TheVariants as ask
+use Rattle.object_access.specs.Methods.{posted_clone}
 use Rattle.web_message.specs.Cloning.{data_of}
 
 pub posted_some : (doc : ℕ) (to : Target) (v : Value) (d : Data) → data_of v ≡ Some d → posted_clone doc to v ≡ outcome.Ask (ask.Post doc to d)

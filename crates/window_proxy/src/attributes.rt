@@ -2,14 +2,14 @@
 ghost use Rattle.std.specs.Prelude.{◌≡◌, ◌<◌, IfOk};
 ghost use Rattle.origin_core.specs.Origin.{origin_text};
 ghost use Rattle.tree_log.specs.Tree.{origin_of};
-ghost use Rattle.single_agent.specs.WindowAccess as spec;
-ghost use Rattle.single_agent.specs.Values.{text};
+ghost use Rattle.object_access.specs.WindowAccess as spec;
+ghost use Rattle.object_access.specs.Values.{text};
 
-use crate::going::set_href;
-use crate::values::{null, text, text_of, truth, undefined, window_or};
+use agent_terms::{Ask, Outcome};
+use object_operations::set_href;
+use object_operations::values::{null, text, text_of, truth, undefined, window_or};
 use origin_core::origin_text;
 use plain_data::Data;
-use single_agent::{Ask, Outcome};
 use std::alloc::{AllocError, Global};
 use tree_view::View;
 use window_props::{Platform, Value};
@@ -53,7 +53,7 @@ fn origin_value<V: View>(alloc: Global, view: &V, doc: u32) -> Result<Value, All
 }
 
 /// What the getter of an attribute gives for the window of a navigable.
-#[tactic(auto, unfolding(single_agent::specs::WindowAccess::window_value))]
+#[tactic(auto, unfolding(object_access::specs::WindowAccess::window_value))]
 pub(crate) fn window_value<V: View>(
     alloc: Global,
     view: &V,
@@ -81,7 +81,7 @@ pub(crate) fn window_value<V: View>(
 }
 
 /// What the setter of an attribute comes to for the Window of a document. `opener` is set to null here.
-#[tactic(auto, unfolding(single_agent::specs::WindowAccess::window_set))]
+#[tactic(auto, unfolding(object_access::specs::WindowAccess::window_set))]
 pub(crate) fn window_set<V: View>(
     alloc: Global,
     view: &V,

@@ -1,12 +1,12 @@
 //! What `postMessage` comes to (HTML Standard, 9.3.3).
 ghost use Rattle.std.specs.Prelude.{◌≡◌, find, bytes_eq, codes, option_copied, IfOk};
 ghost use Rattle.plain_data.specs.declared.data.Data.{out-Data};
-ghost use Rattle.single_agent.specs.Methods as spec;
+ghost use Rattle.object_access.specs.Methods as spec;
 
-use crate::values::data_text;
+use agent_terms::{Ask, Outcome};
+use object_operations::values::data_text;
 use origin_core::Origin;
 use plain_data::{Data, Items, Text};
-use single_agent::{Ask, Outcome};
 use std::alloc::{AllocError, Global};
 use tree_log::Target;
 use web_message::{CloneError, TargetError, clone_of, target_of};
@@ -57,7 +57,7 @@ fn text_of_options(alloc: Global, plain: &Data) -> Result<Option<Text>, AllocErr
 }
 
 // The text of the second argument, a target or options with one.
-#[tactic(auto, unfolding(single_agent::specs::Methods::target_text))]
+#[tactic(auto, unfolding(object_access::specs::Methods::target_text))]
 fn target_text(alloc: Global, target: Option<&Value>) -> Result<Option<Text>, AllocError>
     ensures { IfOk result (λ t. t ≡ spec.target_text (option_copied target.entry)) }
 {
@@ -101,7 +101,7 @@ fn posted_to(
 }
 
 /// What `postMessage` to the Window of a document comes to.
-#[tactic(auto, unfolding(single_agent::specs::Methods::posted))]
+#[tactic(auto, unfolding(object_access::specs::Methods::posted))]
 pub(crate) fn post(
     alloc: Global,
     sender: &Origin,

@@ -1,14 +1,14 @@
 ghost use Rattle.std.specs.Prelude.{◌≡◌, ◌<◌, true, IfOk, OnErr};
-ghost use Rattle.window_props.specs.Shown.{shown};
+ghost use Rattle.window_props.specs.Shown.{store_shown};
 ghost use Rattle.window_props.specs.Ordinary.{Define, Set, Delete};
-ghost use Rattle.single_agent.specs.Access as spec;
-ghost use Rattle.single_agent.specs.Methods.{called};
-ghost use Rattle.single_agent.specs.WindowAccess.{window};
-ghost use Rattle.window_proxy.specs.Verdict as ruling;
+ghost use Rattle.object_access.specs.Access as spec;
+ghost use Rattle.object_access.specs.Methods.{called};
+ghost use Rattle.object_access.specs.WindowAccess.{window};
+ghost use Rattle.object_access.specs.Verdict as ruling;
 
-use crate::access;
 use crate::window::WindowMet;
-use single_agent::{Op, Outcome, Ruling};
+use agent_terms::{Op, Outcome, Ruling};
+use object_operations::access;
 use std::alloc::{AllocError, Global};
 use tree_view::View;
 use window_props::{Change, Key, Props, Value};
@@ -32,7 +32,7 @@ pub fn own_property<V: View>(
 ) -> Result<Outcome, AllocError>
     requires asker { asker < (V.tree view.now).docs }
     requires nav { nav < (V.tree view.now).navs }
-    ensures { IfOk result (λ o. o ≡ spec.described (window (V.tree view.now) (V.urls view.now) asker nav) (shown props.now) key.now) }
+    ensures { IfOk result (λ o. o ≡ spec.described (window (V.tree view.now) (V.urls view.now) asker nav) (store_shown props.now) key.now) }
 {
     access::own_property(&WindowMet { view, asker, nav }, props, key)
 }
@@ -48,7 +48,7 @@ pub fn get<V: View>(
 ) -> Result<Outcome, AllocError>
     requires asker { asker < (V.tree view.now).docs }
     requires nav { nav < (V.tree view.now).navs }
-    ensures { IfOk result (λ o. o ≡ spec.got (window (V.tree view.now) (V.urls view.now) asker nav) (shown props.now) key.now) }
+    ensures { IfOk result (λ o. o ≡ spec.got (window (V.tree view.now) (V.urls view.now) asker nav) (store_shown props.now) key.now) }
 {
     access::get(alloc, &WindowMet { view, asker, nav }, props, key)
 }
@@ -63,7 +63,7 @@ pub fn has<V: View>(
 ) -> Result<Outcome, AllocError>
     requires asker { asker < (V.tree view.now).docs }
     requires nav { nav < (V.tree view.now).navs }
-    ensures { IfOk result (λ o. o ≡ spec.has (window (V.tree view.now) (V.urls view.now) asker nav) (shown props.now) key.now) }
+    ensures { IfOk result (λ o. o ≡ spec.has (window (V.tree view.now) (V.urls view.now) asker nav) (store_shown props.now) key.now) }
 {
     access::has(&WindowMet { view, asker, nav }, props, key)
 }
@@ -81,10 +81,10 @@ pub fn set<V: View>(
 ) -> Result<Outcome, AllocError>
     requires asker { asker < (V.tree view.now).docs }
     requires nav { nav < (V.tree view.now).navs }
-    ensures ok { IfOk result (λ o. o ≡ spec.set (window (V.tree view.now) (V.urls view.now) asker nav) (shown props.old) key.now value) }
-    ensures left { IfOk result (λ _. shown props.new ≡ spec.left (window (V.tree view.now) (V.urls view.now) asker nav) (shown props.old) key.now (Set value)) }
-    ensures kept { IfOk result (λ o. ¬ (o ≡ Outcome.Truth true) → shown props.new ≡ shown props.old) }
-    ensures err { OnErr result (shown props.new ≡ shown props.old) }
+    ensures ok { IfOk result (λ o. o ≡ spec.set (window (V.tree view.now) (V.urls view.now) asker nav) (store_shown props.old) key.now value) }
+    ensures left { IfOk result (λ _. store_shown props.new ≡ spec.store_left (window (V.tree view.now) (V.urls view.now) asker nav) (store_shown props.old) key.now (Set value)) }
+    ensures kept { IfOk result (λ o. ¬ (o ≡ Outcome.Truth true) → store_shown props.new ≡ store_shown props.old) }
+    ensures err { OnErr result (store_shown props.new ≡ store_shown props.old) }
 {
     access::set(alloc, &WindowMet { view, asker, nav }, props, key, value)
 }
@@ -101,10 +101,10 @@ pub fn define<V: View>(
 ) -> Result<Outcome, AllocError>
     requires asker { asker < (V.tree view.now).docs }
     requires nav { nav < (V.tree view.now).navs }
-    ensures ok { IfOk result (λ o. o ≡ spec.defined (window (V.tree view.now) (V.urls view.now) asker nav) (shown props.old) key.now change) }
-    ensures left { IfOk result (λ _. shown props.new ≡ spec.left (window (V.tree view.now) (V.urls view.now) asker nav) (shown props.old) key.now (Define change)) }
-    ensures kept { IfOk result (λ o. ¬ (o ≡ Outcome.Truth true) → shown props.new ≡ shown props.old) }
-    ensures err { OnErr result (shown props.new ≡ shown props.old) }
+    ensures ok { IfOk result (λ o. o ≡ spec.defined (window (V.tree view.now) (V.urls view.now) asker nav) (store_shown props.old) key.now change) }
+    ensures left { IfOk result (λ _. store_shown props.new ≡ spec.store_left (window (V.tree view.now) (V.urls view.now) asker nav) (store_shown props.old) key.now (Define change)) }
+    ensures kept { IfOk result (λ o. ¬ (o ≡ Outcome.Truth true) → store_shown props.new ≡ store_shown props.old) }
+    ensures err { OnErr result (store_shown props.new ≡ store_shown props.old) }
 {
     access::define(&WindowMet { view, asker, nav }, props, key, change)
 }
@@ -114,9 +114,9 @@ pub fn define<V: View>(
 pub fn delete<V: View>(view: &V, props: &mut Props, asker: u32, nav: u32, key: &Key) -> Outcome
     requires asker { asker < (V.tree view.now).docs }
     requires nav { nav < (V.tree view.now).navs }
-    ensures ok { result ≡ spec.deleted (window (V.tree view.now) (V.urls view.now) asker nav) (shown props.old) key.now }
-    ensures left { shown props.new ≡ spec.left (window (V.tree view.now) (V.urls view.now) asker nav) (shown props.old) key.now Delete }
-    ensures kept { ¬ (result ≡ Outcome.Truth true) → shown props.new ≡ shown props.old }
+    ensures ok { result ≡ spec.deleted (window (V.tree view.now) (V.urls view.now) asker nav) (store_shown props.old) key.now }
+    ensures left { store_shown props.new ≡ spec.store_left (window (V.tree view.now) (V.urls view.now) asker nav) (store_shown props.old) key.now Delete }
+    ensures kept { ¬ (result ≡ Outcome.Truth true) → store_shown props.new ≡ store_shown props.old }
 {
     access::delete(&WindowMet { view, asker, nav }, props, key)
 }
@@ -131,7 +131,7 @@ pub fn own_keys<V: View>(
 ) -> Result<Outcome, AllocError>
     requires asker { asker < (V.tree view.now).docs }
     requires nav { nav < (V.tree view.now).navs }
-    ensures { IfOk result (λ o. o ≡ spec.keys (window (V.tree view.now) (V.urls view.now) asker nav) (shown props.now)) }
+    ensures { IfOk result (λ o. o ≡ spec.keys (window (V.tree view.now) (V.urls view.now) asker nav) (store_shown props.now)) }
 {
     access::own_keys(alloc, &WindowMet { view, asker, nav }, props)
 }
@@ -159,7 +159,7 @@ pub fn call<V: View>(
 ) -> Result<Outcome, AllocError>
     requires asker { asker < (V.tree view.now).docs }
     requires nav { nav < (V.tree view.now).navs }
-    ensures { IfOk result (λ o. o ≡ called (V.tree view.now) (V.urls view.now) asker (window (V.tree view.now) (V.urls view.now) asker nav) (shown props.now) key.now args.now) }
+    ensures { IfOk result (λ o. o ≡ called (V.tree view.now) (V.urls view.now) asker (window (V.tree view.now) (V.urls view.now) asker nav) (store_shown props.now) key.now args.now) }
 {
     access::call(alloc, &WindowMet { view, asker, nav }, props, key, args)
 }

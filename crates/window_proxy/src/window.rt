@@ -1,11 +1,11 @@
 ghost use Rattle.std.specs.Prelude.{◌≡◌, ◌<◌};
-ghost use Rattle.single_agent.specs.WindowAccess as spec;
+ghost use Rattle.object_access.specs.WindowAccess as spec;
 
 use crate::attributes::{window_set, window_value};
 use crate::messages::post;
-use crate::met::Met;
-use crate::values::undefined;
-use single_agent::{Ask, Outcome};
+use agent_terms::{Ask, Outcome};
+use object_operations::Met;
+use object_operations::values::undefined;
 use std::alloc::{AllocError, Global};
 use tree_view::View;
 use window_props::{Key, Kind, Method, Object, Value, named};
@@ -18,7 +18,7 @@ pub struct WindowMet<'a, V> {
     pub nav: u32,
 }
 
-#[tactic(auto, unfolding(single_agent::specs::WindowAccess::window_of))]
+#[tactic(auto, unfolding(object_access::specs::WindowAccess::window_of))]
 impl<'a, V: View> Met for WindowMet<'a, V> {
     ghost tree = { λ m. V.tree m.view.now };
 

@@ -1,8 +1,8 @@
 use Rattle.std.proofs.Common.{◌≡◌, ℕ, List, false, sym, subst}
 use Rattle.std.specs.Prelude.{IfOk}
-use Rattle.single_agent.specs.declared.step.Step.{Step}
-use Rattle.single_agent.specs.Access as access
-use Rattle.single_agent.specs.StepAnswer.{Sight, perform, on_object}
+use Rattle.agent_terms.specs.declared.step.Step.{Step}
+use Rattle.object_access.specs.Access as access
+use Rattle.object_access.specs.StepAnswer.{Sight, perform, on_object}
 use Rattle.script_steps.specs.Kept.{kept}
 use Rattle.script_steps.specs.Stored.{stored}
 use Rattle.script_steps.specs.Reached.{sight}

@@ -1,7 +1,7 @@
 use Rattle.std.proofs.Common.{◌≡◌, map, take}
 use Rattle.window_props.specs.declared.platform.Object.{Object}
 use Rattle.window_props.specs.History.{Store}
-use Rattle.single_agent.specs.StepAnswer.{operand_value}
+use Rattle.object_access.specs.StepAnswer.{operand_value}
 use Rattle.script_steps.specs.Kept.{kept}
 use Rattle.script_steps.specs.Reached.{sight}
 use Rattle.script_steps.proofs.agent.Agent.operands.Given as goal

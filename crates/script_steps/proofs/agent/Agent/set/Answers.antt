@@ -1,8 +1,8 @@
 use Rattle.std.proofs.Common.{◌≡◌, ℕ, List, subst}
 use Rattle.std.specs.Prelude.{IfOk}
 use Rattle.window_props.specs.declared.value.Value.{Value}
-use Rattle.single_agent.specs.Access as access
-use Rattle.single_agent.specs.StepAnswer.{Sight, on_object, operand_value}
+use Rattle.object_access.specs.Access as access
+use Rattle.object_access.specs.StepAnswer.{Sight, on_object, operand_value}
 use Rattle.script_steps.specs.Kept.{kept}
 use Rattle.script_steps.specs.Stored.{stored}
 use Rattle.script_steps.specs.Reached.{sight}

@@ -1,5 +1,5 @@
 use Rattle.std.proofs.Common.{◌∙◌, ap}
-use Rattle.single_agent.specs.Registers.{written}
+use Rattle.object_access.specs.Registers.{written}
 use Rattle.script_steps.specs.Kept.{kept, rows_of}
 use Rattle.script_steps.proofs.KeptLaws.{on_ok, held_set}
 use Rattle.script_steps.proofs.registers.Registers.set.Goals as goal

@@ -1,0 +1,6 @@
+use Rattle.std.proofs.Common.{◌∙◌}
+use Rattle.object_operations.proofs.KeptLaws.{defined_kept}
+use Rattle.object_operations.proofs.access.changing.define.Goals as goal
+
+pub returns-clause-kept : goal.returns-clause-kept
+returns-clause-kept g c = λ other. c.in_ok-outcome.ensures.left ∙ defined_kept _ _ _ _ (λ e. other (c.in_ok-outcome.ensures.ok ∙ e))
