@@ -6,29 +6,31 @@ use Rattle.std.proofs.lemmas.List.{reverse-append}
 use Rattle.tree_log.specs.declared.entry.Entry.{Entry}
 use Rattle.tree_log.specs.Facts.{navs_after}
 use Rattle.tree_log.specs.Tree.{Tree, tree_of, is, is_active, nav_of}
-use Rattle.single_agent.specs.declared.session.Session.{Session}
-use Rattle.single_agent.specs.declared.act.Act.{Act}
-use Rattle.single_agent.specs.declared.act.Act.TheVariants.{Step as StepAct}
-use Rattle.single_agent.specs.declared.act.Answer.{Answer}
-use Rattle.single_agent.specs.declared.act.Answer.TheVariants as answer
-use Rattle.single_agent.specs.declared.act.Move.TheVariants.{Asks}
-use Rattle.single_agent.specs.declared.act.Point.{Point}
-use Rattle.single_agent.specs.declared.act.Running.{Running}
-use Rattle.single_agent.specs.declared.request.Request.{Request}
-use Rattle.single_agent.specs.declared.request.Request.TheVariants as ask
-use Rattle.single_agent.specs.declared.request.ReplyOutcome.{ReplyOutcome}
-use Rattle.single_agent.specs.declared.request.ReplyOutcome.TheVariants as reply
-use Rattle.single_agent.specs.declared.step.OpName.{OpName}
-use Rattle.single_agent.specs.declared.step.OpName.TheVariants as names
-use Rattle.single_agent.specs.declared.outcome.Outcome.TheVariants as outcome
+use Rattle.agent_terms.specs.declared.session.Session.{Session}
+use Rattle.agent_terms.specs.declared.act.Act.{Act}
+use Rattle.agent_terms.specs.declared.act.Act.TheVariants.{Step as StepAct}
+use Rattle.agent_terms.specs.declared.act.Answer.{Answer}
+use Rattle.agent_terms.specs.declared.act.Answer.TheVariants as answer
+use Rattle.agent_terms.specs.declared.act.Move.TheVariants.{Asks}
+use Rattle.agent_terms.specs.declared.act.Point.{Point}
+use Rattle.agent_terms.specs.declared.act.Running.{Running}
+use Rattle.agent_terms.specs.declared.request.Request.{Request}
+use Rattle.agent_terms.specs.declared.request.Request.TheVariants as ask
+use Rattle.agent_terms.specs.declared.request.ReplyOutcome.{ReplyOutcome}
+use Rattle.agent_terms.specs.declared.request.ReplyOutcome.TheVariants as reply
+use Rattle.agent_terms.specs.declared.step.OpName.{OpName}
+use Rattle.agent_terms.specs.declared.step.OpName.TheVariants as names
+use Rattle.agent_terms.specs.declared.outcome.Outcome.TheVariants as outcome
 use Rattle.window_props.specs.declared.value.Value.TheVariants as value
-use Rattle.single_agent.specs.Values.{null}
-use Rattle.script_steps.specs.Built.{is_made}
+use Rattle.object_access.specs.Values.{null}
+use Rattle.agent_terms.specs.Built.{is_made}
 use Rattle.origin_core.specs.Flags.{union}
-use Rattle.single_agent.specs.Navigation.{flags_in}
-use Rattle.single_agent.specs.Decision.{Rules, rules_of, framed, Decision, decide, is_fragment, asker_of, home_if_active, asked, exchange}
-use Rattle.single_agent.specs.Registers.{value_in}
-use Rattle.single_agent.specs.NextAct.{Left, registers_after, one_more, rule_of, done_of, answer_of}
+use Rattle.coordinator_rules.specs.Navigation.{flags_in}
+use Rattle.coordinator_rules.specs.Decision.{Rules, rules_of, frame_entry, Decision, decide, is_fragment, asker_of, home_if_active, asked_decision, exchange}
+use Rattle.object_access.specs.Registers.{value_in}
+use Rattle.single_agent.specs.Running.{Left, one_more}
+use Rattle.single_agent.specs.Sights.{registers_after}
+use Rattle.single_agent.specs.NextAct.{rule_of, done_of, answer_of}
 use Rattle.single_agent.specs.Turns.{IsFull, needs_room}
 use Rattle.single_agent.proofs.Mine.{IsMine, mine_now, yours_of, IsNoTask, exchange_asked}
 use Rattle.tree_log.specs.Urls.{url_of}
@@ -36,7 +38,7 @@ use Rattle.session_player.specs.declared.desk.Told.{Told}
 use Rattle.session_player.specs.declared.requests.Replied.{Replied}
 use Rattle.session_player.specs.declared.worker.Turn.TheVariants.{Acted, Full}
 use Rattle.script_steps.specs.Reached.{IsValueThere}
-use Rattle.session_player.specs.Serves.{Ledger, Replies, is_yours, Answers}
+use Rattle.session_player.specs.Serves.{Ledger, Replies, is_yours, AnswersRequest}
 use Rattle.session_player.specs.Steps.{Holds, IsTied, IsOwnRun, HeardAll, AskEnds, left_now, stores_then}
 use Rattle.session_player.proofs.Asking.{asked_ended, asked_active}
 use Rattle.session_player.proofs.Few.{asked_few}
@@ -62,7 +64,7 @@ unfolding is_made
 no_task ask.Next h = absurd cc
 no_task _ h = tt
 
-pub exchanged : (rules : Rules) (log : List Entry) (r : ℕ) (q : Request) → is_made q ≡ true → is_yours log r q ≡ true → exchange rules log r q ≡ asked rules log r q
+pub exchanged : (rules : Rules) (log : List Entry) (r : ℕ) (q : Request) → is_made q ≡ true → is_yours log r q ≡ true → exchange rules log r q ≡ asked_decision rules log r q
 exchanged rules log r q made mine = exchange_asked rules log r q (no_task q made) mine
 
 needs : (log : List Entry) (r doc : ℕ) (point : Point) (op : OpName) (q : Request) → is_yours log r q ≡ true → is_active (tree_of log) (asker_of q) ≡ true → IsTrue (needs_room (tree_of log) r (Asks doc point op q))
@@ -92,7 +94,7 @@ unfolding decide is_made
 decided_there rules log f r (ask.Sync asker) nav made h = absurd cc
 decided_there rules log f r (ask.Frame asker name flags url) nav made h =
     let t = tree_of log in
-    let e : Entry = record { by = Some r; actor = Some asker; what = framed rules t asker name (union flags (flags_in t (nav_of t asker))) url } in
+    let e : Entry = record { by = Some r; actor = Some asker; what = frame_entry rules t asker name (union flags (flags_in t (nav_of t asker))) url } in
     let same : t.navs ≡ nav = cc in
     let more : (tree_of (e ∷ log)).navs ≡ t.navs + 1 = navs_more e log in
     let later : nav < (tree_of (e ∷ log)).navs = omega (arith, same, more) in
@@ -100,9 +102,9 @@ decided_there rules log f r (ask.Frame asker name flags url) nav made h =
 decided_there rules log f r (ask.Drop asker n) nav made h = absurd cc
 decided_there rules log f r _ nav made h = absurd cc
 
-pub made_there : (rules : Rules) (log : List Entry) (r : ℕ) (q : Request) (nav : ℕ) → is_made q ≡ true → (asked rules log r q).outcome ≡ reply.Made nav → nav < (tree_of ((asked rules log r q).entries ++ log)).navs
+pub made_there : (rules : Rules) (log : List Entry) (r : ℕ) (q : Request) (nav : ℕ) → is_made q ≡ true → (asked_decision rules log r q).outcome ≡ reply.Made nav → nav < (tree_of ((asked_decision rules log r q).entries ++ log)).navs
 made_there rules log r q nav made h = by (is_active (tree_of log) (asker_of q)) refl where
-  by : (b : Bool) → is_active (tree_of log) (asker_of q) ≡ b → nav < (tree_of ((asked rules log r q).entries ++ log)).navs
+  by : (b : Bool) → is_active (tree_of log) (asker_of q) ≡ b → nav < (tree_of ((asked_decision rules log r q).entries ++ log)).navs
   by true active =
       let d = asked_active rules log r q active in
       subst (λ (x : Decision). nav < (tree_of (x.entries ++ log)).navs) (sym d)
@@ -110,8 +112,8 @@ made_there rules log r q nav made h = by (is_active (tree_of log) (asker_of q)) 
   by false ended = let d = ap (λ (x : Decision). x.outcome) (asked_ended rules log r q ended) in let clash : reply.Unloaded _ ≡ reply.Made nav = sym d ∙ h in absurd cc
 
 -- the window that an answer holds is there once the log is heard
-pub answer_there : (s : Session) (r : ℕ) (op : OpName) (q : Request) (replied : Replied) (told : Told) (t : Tree) (l m : Ledger) → is_made q ≡ true → Answers (rules_of s) r q l replied told m → t ≡ tree_of m.log
-    → (o : ReplyOutcome) (given : Answer) → o ≡ (asked (rules_of s) l.log r q).outcome → Some given ≡ answer_of op o → IsValueThere t (value_in given)
+pub answer_there : (s : Session) (r : ℕ) (op : OpName) (q : Request) (replied : Replied) (told : Told) (t : Tree) (l m : Ledger) → is_made q ≡ true → AnswersRequest (rules_of s) r q l replied told m → t ≡ tree_of m.log
+    → (o : ReplyOutcome) (given : Answer) → o ≡ (asked_decision (rules_of s) l.log r q).outcome → Some given ≡ answer_of op o → IsValueThere t (value_in given)
 answer_there s r op q replied told t l m made a tree (reply.Made nav) given e gives =
     let same : answer.Outcome (outcome.Value (value.Window nav)) ≡ given = cc in
     subst (λ (x : Answer). IsValueThere t (value_in x)) same (subst (λ (u : Tree). nav < u.navs) (sym (tree ∙ ap tree_of a.log)) (made_there (rules_of s) l.log r q nav made (sym e)))
@@ -133,17 +135,17 @@ pub step_last : (xs ys : List Act) (a : Act) → ys ≡ xs ++ a ∷ [] → rever
 step_last xs ys a e = ap reverse e ∙ reverse-append xs (a ∷ [])
 
 pub asked_acted : (s : Session) (r doc : ℕ) (point : Point) (op : OpName) (q : Request) (replied : Replied) (told : Told) (given : Answer) (left : Left) (xs ys : List Act) (at : ℕ) (w v : Holds) (l m : Ledger)
-    → is_made q ≡ true → Answers (rules_of s) r q l replied told m → HeardAll r l v m → ((o : ReplyOutcome) → Replies replied o → Some given ≡ answer_of op o)
+    → is_made q ≡ true → AnswersRequest (rules_of s) r q l replied told m → HeardAll r l v m → ((o : ReplyOutcome) → Replies replied o → Some given ≡ answer_of op o)
     → w.acts ≡ reverse xs → v.acts ≡ reverse ys → ys ≡ xs ++ StepAct at doc point op given ∷ [] → at ≡ v.heard
     → v.run ≡ option_map one_more w.run → left_now s w ≡ Some left → v.registers ≡ registers_after (Some left) given w.registers → v.stores ≡ w.stores → stores_then (Some left) w ≡ w.stores → AskEnds s r doc point op q w l Acted v m
 asked_acted s r doc point op q replied told given left xs ys at w v l m made a all gives old new pushed is_at run is registers stores same_stores =
-    let same : exchange (rules_of s) l.log r q ≡ asked (rules_of s) l.log r q = exchanged (rules_of s) l.log r q made a.yours in (
+    let same : exchange (rules_of s) l.log r q ≡ asked_decision (rules_of s) l.log r q = exchanged (rules_of s) l.log r q made a.yours in (
       λ n. a.room (active_if (is_yours l.log r q) (is_active (tree_of l.log) (asker_of q)) n),
       record {
         log = a.log ∙ ap (λ (d : Decision). d.entries ++ l.log) (sym same);
         few = λ short. subst (λ (g : List Entry). length g ≤ 20000) (sym a.log) (asked_few (rules_of s) l.log r q short a.room);
         given = given;
-        gives = gives (asked (rules_of s) l.log r q).outcome a.replies ∙ ap (λ (d : Decision). answer_of op d.outcome) (sym same);
+        gives = gives (asked_decision (rules_of s) l.log r q).outcome a.replies ∙ ap (λ (d : Decision). answer_of op d.outcome) (sym same);
         acts = new ∙ step_last xs ys (StepAct at doc point op given) pushed ∙ ap (λ k. StepAct k doc point op given ∷ reverse xs) (is_at ∙ all.heard)
             ∙ ap (λ acts. StepAct (length m.log) doc point op given ∷ acts) (sym old);
         run = run;

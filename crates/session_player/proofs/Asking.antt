@@ -12,13 +12,13 @@ use Rattle.tree_log.specs.Urls.{url_of}
 use Rattle.tree_log.specs.Admits.{admits, AreAdmitted}
 use Rattle.tree_log.proofs.Admitted.{StandsIfAny, TaskStands, AllStand, tasks_stand, few_of}
 use Rattle.origin_core.specs.Flags.{union}
-use Rattle.single_agent.specs.declared.request.Request.{Request}
-use Rattle.single_agent.specs.declared.request.Request.TheVariants as ask
-use Rattle.single_agent.specs.declared.request.ReplyOutcome.TheVariants as outcome
-use Rattle.single_agent.specs.Navigation.{flags_in, is_in}
-use Rattle.single_agent.specs.Decision.{Rules, Decision, by, decide, is_fragment, asker_of, end_of, home_if_active, asked}
+use Rattle.agent_terms.specs.declared.request.Request.{Request}
+use Rattle.agent_terms.specs.declared.request.Request.TheVariants as ask
+use Rattle.agent_terms.specs.declared.request.ReplyOutcome.TheVariants as outcome
+use Rattle.coordinator_rules.specs.Navigation.{flags_in, is_in}
+use Rattle.coordinator_rules.specs.Decision.{Rules, Decision, by, decide, is_fragment, asker_of, end_of, home_if_active, asked_decision}
 use Rattle.single_agent.proofs.Admitted.{sync_admitted, drop_admitted, frame_admitted}
-use Rattle.agent_laws.proofs.Well.{admitted_well}
+use Rattle.agent_laws.proofs.Groups.Well.{admitted_well}
 use Rattle.session_player.specs.declared.requests.Replied.{Replied}
 use Rattle.session_player.specs.Serves.{Replies, Decides}
 
@@ -105,12 +105,12 @@ if_yes : {A : Type 0} (b : Bool) (x y : A) → b ≡ true → (if b then x else 
 if_yes true x y h = refl
 if_yes false x y h = absurd cc
 
-pub asked_ended : (rules : Rules) (log : List Entry) (r : ℕ) (q : Request) → is_active (tree_of log) (asker_of q) ≡ false → asked rules log r q ≡ record { entries = []; outcome = outcome.Unloaded (end_of log (asker_of q)) }
-unfolding asked
+pub asked_ended : (rules : Rules) (log : List Entry) (r : ℕ) (q : Request) → is_active (tree_of log) (asker_of q) ≡ false → asked_decision rules log r q ≡ record { entries = []; outcome = outcome.Unloaded (end_of log (asker_of q)) }
+unfolding asked_decision
 asked_ended rules log r q h = if_no (is_active (tree_of log) (asker_of q)) _ _ h
 
-pub asked_active : (rules : Rules) (log : List Entry) (r : ℕ) (q : Request) → is_active (tree_of log) (asker_of q) ≡ true → asked rules log r q ≡ decide rules (tree_of log) (is_fragment (tree_of log) (url_of log) q) r q
-unfolding asked
+pub asked_active : (rules : Rules) (log : List Entry) (r : ℕ) (q : Request) → is_active (tree_of log) (asker_of q) ≡ true → asked_decision rules log r q ≡ decide rules (tree_of log) (is_fragment (tree_of log) (url_of log) q) r q
+unfolding asked_decision
 asked_active rules log r q h = if_yes (is_active (tree_of log) (asker_of q)) _ _ h
 
 pub record IsDecided (d : Decision) (r asker : ℕ) (w : What) (reply : Replied) : Type 0 where
@@ -128,7 +128,7 @@ decided rules t f r (ask.Drop asker nav) w reply h =
 decided rules t f r _ w reply h = absurd h
 
 pub asked_decided : (rules : Rules) (log : List Entry) (r : ℕ) (q : Request) (w : What) (reply : Replied) → is_active (tree_of log) (asker_of q) ≡ true → Decides rules (tree_of log) q w reply
-    → IsDecided (asked rules log r q) r (asker_of q) w reply
+    → IsDecided (asked_decision rules log r q) r (asker_of q) w reply
 asked_decided rules log r q w reply active h =
     subst (λ (d : Decision). IsDecided d r (asker_of q) w reply) (sym (asked_active rules log r q active)) (decided rules (tree_of log) (is_fragment (tree_of log) (url_of log) q) r q w reply h)
 

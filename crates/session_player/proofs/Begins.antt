@@ -7,23 +7,24 @@ use Rattle.tree_log.specs.declared.entry.Entry.{Entry}
 use Rattle.tree_log.specs.Tree.{Tree, tree_of}
 use Rattle.tree_log.specs.Urls.{url_of}
 use Rattle.tree_log.proofs.Places.{prefix_none}
-use Rattle.single_agent.specs.declared.session.Session.{Session}
-use Rattle.single_agent.specs.declared.act.Act.{Act}
-use Rattle.single_agent.specs.declared.act.Running.{Running}
-use Rattle.single_agent.specs.declared.act.Ending.{Ending}
+use Rattle.agent_terms.specs.declared.session.Session.{Session}
+use Rattle.agent_terms.specs.declared.act.Act.{Act}
+use Rattle.agent_terms.specs.declared.act.Running.{Running}
+use Rattle.agent_terms.specs.declared.act.Ending.{Ending}
 use Rattle.single_agent.specs.Session.{starts_of, started, start_entry}
 use Rattle.window_props.specs.declared.value.Value.{Value}
 use Rattle.window_props.specs.declared.platform.Object.{Object}
 use Rattle.window_props.specs.History.{Store}
 use Rattle.tree_log.specs.Admits.{AreAdmitted}
-use Rattle.single_agent.specs.Decision.{Rules, rules_of}
-use Rattle.single_agent.specs.Registers.{unset}
-use Rattle.single_agent.specs.StepAnswer.{first_stores}
-use Rattle.single_agent.specs.NextAct.{step_left, running, registers, stores}
-use Rattle.agent_laws.proofs.Closed.{closed_at_start}
-use Rattle.agent_laws.proofs.Groups.{no_registers, platform_stores}
+use Rattle.coordinator_rules.specs.Decision.{Rules, rules_of}
+use Rattle.object_access.specs.Registers.{unset}
+use Rattle.object_access.specs.StepAnswer.{first_stores}
+use Rattle.single_agent.specs.Running.{step_left, running}
+use Rattle.single_agent.specs.Sights.{registers, stores}
+use Rattle.agent_laws.proofs.Groups.Closed.{closed_at_start}
+use Rattle.agent_laws.proofs.Groups.Grouped.{no_registers, platform_stores}
 use Rattle.std.proofs.lemmas.List.{drop_more, drop_all}
-use Rattle.single_agent.specs.Turns.{log_of, record_of, told_of, Turned, EndsBy}
+use Rattle.single_agent.specs.Turns.{log_of, record_of, told_length, Turned, EndsBy}
 use Rattle.session_player.specs.declared.worker.Worker.{Worker}
 use Rattle.session_player.specs.Serves.{Ledger}
 use Rattle.session_player.specs.Steps.{holds, IsSound}
@@ -37,8 +38,8 @@ record_begins : (r : ℕ) → record_of r [] ≡ []
 unfolding record_of
 record_begins r = refl
 
-told_begins : (s : Session) (r : ℕ) → told_of s r [] ≡ 0
-unfolding told_of
+told_begins : (s : Session) (r : ℕ) → told_length s r [] ≡ 0
+unfolding told_length
 told_begins s r = refl
 
 none_yet : (s : Session) (log : List Entry) → step_left s log [] ≡ None
@@ -84,8 +85,8 @@ begins_underway s l seats lossless log told many count are_fresh few all = recor
   count = count;
   few = few;
   seated = λ r x at.
-      subst (λ (g : List Entry). Keeps s r g (record_of r []) (told_of s r []) x.holds) (sym (log_begins s))
-      (subst (λ (a : List Act). Keeps s r (starts_of s) a (told_of s r []) x.holds) (sym (record_begins r))
+      subst (λ (g : List Entry). Keeps s r g (record_of r []) (told_length s r []) x.holds) (sym (log_begins s))
+      (subst (λ (a : List Act). Keeps s r (starts_of s) a (told_length s r []) x.holds) (sym (record_begins r))
       (subst (λ k. Keeps s r (starts_of s) [] k x.holds) (sym (told_begins s r)) (subst (Keeps s r (starts_of s) [] 0) (sym (are_fresh r x at).1) (fresh_keeps s r (starts_of s)))));
 }
 

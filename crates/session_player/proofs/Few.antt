@@ -3,14 +3,13 @@ use Rattle.std.proofs.Common.{◌≡◌, ℕ, ◌≤◌, List, [], ◌∷◌, �
 use Rattle.std.specs.Prelude.{◌||◌, ◌==◌, if◌then◌else◌}
 use Rattle.tree_log.specs.declared.entry.Entry.{Entry}
 use Rattle.tree_log.specs.declared.entry.What.TheVariants.{Opener, Sync}
-use Rattle.tree_log.specs.Tree.{Tree, tree_of, is_active, nav_of, origin_of}
+use Rattle.tree_log.specs.Tree.{Tree, tree_of, is_active, nav_of, origin_of, same_domain}
 use Rattle.tree_log.specs.Urls.{url_of}
-use Rattle.origin_core.specs.Origin.{is_same_origin_domain}
-use Rattle.single_agent.specs.declared.request.Request.{Request}
-use Rattle.single_agent.specs.declared.request.Request.TheVariants as ask
-use Rattle.single_agent.specs.declared.request.ReplyOutcome.TheVariants.{Security}
-use Rattle.single_agent.specs.Navigation.{may_navigate, Choice, Existing, New, Nothing, choice}
-use Rattle.single_agent.specs.Decision.{Rules, Decision, by, one, navigation, opener_entry, or_sync, made_or_null, open_chosen, is_live, decide, is_fragment, asker_of, asked}
+use Rattle.agent_terms.specs.declared.request.Request.{Request}
+use Rattle.agent_terms.specs.declared.request.Request.TheVariants as ask
+use Rattle.agent_terms.specs.declared.request.ReplyOutcome.TheVariants.{Security}
+use Rattle.coordinator_rules.specs.Navigation.{may_navigate, Choice, Existing, New, Nothing, choice}
+use Rattle.coordinator_rules.specs.Decision.{Rules, Decision, by, one, navigation, opener_entry, or_sync, made_or_null, open_chosen, is_live, decide, is_fragment, asker_of, asked_decision}
 use Rattle.single_agent.specs.Turns.{HasRoom}
 
 Few : Decision → Type 0
@@ -47,8 +46,8 @@ unfolding decide Few
 few_decided rules t f r ask.Next = omega arith
 few_decided rules t f r (ask.Open asker url name noopener user) = few_chosen rules t f r asker url name noopener user (choice t (nav_of t asker) name noopener user)
 few_decided rules t f r (ask.Go asker doc url user) = few_twice (is_live t asker doc) (may_navigate t (nav_of t asker) (nav_of t doc) user) _ _ _ (omega arith) (omega arith) (omega arith)
-few_decided rules t f r (ask.Name asker doc name) = few_twice (is_live t asker doc) (is_same_origin_domain (origin_of t asker) (origin_of t doc)) _ _ _ (omega arith) (omega arith) (omega arith)
-few_decided rules t f r (ask.Disown asker doc) = few_twice (is_live t asker doc) (is_same_origin_domain (origin_of t asker) (origin_of t doc)) _ _ _ (omega arith) (omega arith) (omega arith)
+few_decided rules t f r (ask.Name asker doc name) = few_twice (is_live t asker doc) (same_domain t asker doc) _ _ _ (omega arith) (omega arith) (omega arith)
+few_decided rules t f r (ask.Disown asker doc) = few_twice (is_live t asker doc) (same_domain t asker doc) _ _ _ (omega arith) (omega arith) (omega arith)
 few_decided rules t f r q = omega arith
 
 if_few : (b : Bool) (log : List Entry) (c d : Decision) → Few c → d.entries ≡ [] → length log ≤ 20000 → (b ≡ true → HasRoom log) → length ((if b then c else d).entries ++ log) ≤ 20000
@@ -57,7 +56,7 @@ if_few true log c d few none short room = let h = room refl in let l = length-ap
 if_few false log c d few none short room = let l = length-append d.entries log in let n = ap length none in omega arith
 
 -- none is added but where there is room
-pub asked_few : (rules : Rules) (log : List Entry) (r : ℕ) (q : Request) → length log ≤ 20000 → (is_active (tree_of log) (asker_of q) ≡ true → HasRoom log) → length ((asked rules log r q).entries ++ log) ≤ 20000
-unfolding asked
+pub asked_few : (rules : Rules) (log : List Entry) (r : ℕ) (q : Request) → length log ≤ 20000 → (is_active (tree_of log) (asker_of q) ≡ true → HasRoom log) → length ((asked_decision rules log r q).entries ++ log) ≤ 20000
+unfolding asked_decision
 asked_few rules log r q short room =
     if_few (is_active (tree_of log) (asker_of q)) log (decide rules (tree_of log) (is_fragment (tree_of log) (url_of log) q) r q) _ (few_decided rules (tree_of log) (is_fragment (tree_of log) (url_of log) q) r q) refl short room

@@ -3,16 +3,16 @@ use Rattle.std.proofs.Common.{◌≡◌, ℕ, ◌+◌, ◌<◌, ◌≤◌, List,
 use Rattle.std.specs.Prelude.{nat_le, ◌||◌, if◌then◌else◌}
 use Rattle.std.proofs.Common.{inl, inr}
 use Rattle.std.proofs.lemmas.Bool.Decides.{eqb_tells}
+use Rattle.std.specs.Option.{option_or}
 use Rattle.tree_log.specs.declared.entry.Entry.{Entry}
 use Rattle.tree_log.specs.declared.entry.What.{What}
 use Rattle.tree_log.specs.Log.{entry_at, prefix}
-use Rattle.tree_log.specs.Facts.{or_else}
 use Rattle.tree_log.specs.Tree.{Tree, tree_of}
 use Rattle.tree_log.specs.Homes.{home_for}
 use Rattle.tree_log.proofs.Admitted.{TaskStands, AllStand}
 use Rattle.tree_log.proofs.Places.{entry_below, prefix_next, prefix_length, prefix_whole}
 use Rattle.origin_core.specs.declared.site.Site.{Site}
-use Rattle.single_agent.specs.NextTask.{ends, is_over, task_of, first_task, next_task}
+use Rattle.coordinator_rules.specs.NextTask.{ends, is_over, task_of, first_task, next_task}
 
 -- the loads of the entry at a place stand
 pub stands_at : (t : Tree) (log : List Entry) (k : ℕ) (e : Entry) → AllStand t log → entry_at log k ≡ Some e → TaskStands t e.what
@@ -30,7 +30,7 @@ first_kept t over r k [] what h = h
 first_kept t over r k (e ∷ older) what h = by_length (nat_le k (length older)) h (λ early. first_kept t over r k older what early) where
   by_length : (b : Bool) → first_task t over r (if b then prefix k older else e ∷ older) ≡ Some what → (first_task t over r (prefix k older) ≡ Some what → first_task t over r older ≡ Some what)
       → first_task t over r (e ∷ older) ≡ Some what
-  by_length true h early = ap (λ o. or_else o (task_of t over r (length older) e.what)) (early h)
+  by_length true h early = ap (λ o. option_or o (task_of t over r (length older) e.what)) (early h)
   by_length false h early = h
 
 -- one entry more
@@ -38,7 +38,7 @@ pub first_next : (t : Tree) (over : ℕ → ℕ → Bool) (r k : ℕ) (log : Lis
     → first_task t over r (prefix (k + 1) log) ≡ task
 first_next t over r k log e task h none is =
     let lt = entry_below log k e h in
-    ap (first_task t over r) (prefix_next log k e h) ∙ ap (λ o. or_else o (task_of t over r (length (prefix k log)) e.what)) none
+    ap (first_task t over r) (prefix_next log k e h) ∙ ap (λ o. option_or o (task_of t over r (length (prefix k log)) e.what)) none
     ∙ ap (λ n. task_of t over r n e.what) (prefix_length log k (omega arith)) ∙ sym is
 
 pub found_at : (t : Tree) (over : ℕ → ℕ → Bool) (r k : ℕ) (log : List Entry) (e : Entry) (what : What) → entry_at log k ≡ Some e → first_task t over r (prefix k log) ≡ None → Some what ≡ task_of t over r k e.what

@@ -11,13 +11,14 @@ use Rattle.tree_log.specs.Urls.{url_of}
 use Rattle.tree_log.specs.Admits.{has, admits, AreAdmitted}
 use Rattle.tree_log.proofs.Places.{prefix_more, prefix_length}
 use Rattle.tree_log.proofs.Admitted.{both, lt_of, what_admitted}
-use Rattle.single_agent.specs.declared.act.Act.{Act}
-use Rattle.single_agent.specs.declared.act.Act.TheVariants.{Task}
-use Rattle.single_agent.specs.declared.act.TaskKind.{TaskKind}
-use Rattle.single_agent.specs.declared.act.Running.{Running}
-use Rattle.single_agent.specs.declared.act.Point.TheVariants.{Script}
-use Rattle.single_agent.specs.NextTask.{next_task, task_entry}
-use Rattle.single_agent.specs.NextAct.{starts, kind_of}
+use Rattle.agent_terms.specs.declared.act.Act.{Act}
+use Rattle.agent_terms.specs.declared.act.Act.TheVariants.{Task}
+use Rattle.agent_terms.specs.declared.act.TaskKind.{TaskKind}
+use Rattle.agent_terms.specs.declared.act.Running.{Running}
+use Rattle.agent_terms.specs.declared.act.Point.TheVariants.{Script}
+use Rattle.coordinator_rules.specs.NextTask.{next_task, task_entry}
+use Rattle.single_agent.specs.Running.{starts}
+use Rattle.single_agent.specs.NextAct.{kind_of}
 use Rattle.single_agent.specs.Turns.{HasRoom}
 use Rattle.single_agent.proofs.Admitted.{task_admitted}
 use Rattle.session_player.specs.declared.desk.Told.{Told}

@@ -13,30 +13,35 @@ use Rattle.tree_log.specs.Tree.{Tree, tree_of}
 use Rattle.tree_log.specs.Urls.{url_of}
 use Rattle.tree_log.specs.Admits.{AreAdmitted}
 use Rattle.tree_log.proofs.Places.{prefix_more, prefix_whole, entry_newest}
-use Rattle.single_agent.specs.declared.session.Session.{Session}
-use Rattle.single_agent.specs.declared.act.Act.{Act}
-use Rattle.single_agent.specs.declared.act.Act.TheVariants.{Step as StepAct, Task}
-use Rattle.single_agent.specs.declared.act.Answer.{Answer}
-use Rattle.single_agent.specs.declared.act.Answer.TheVariants as answer
-use Rattle.single_agent.specs.declared.act.Move.TheVariants.{Asks, Takes, Stays}
-use Rattle.single_agent.specs.declared.act.Point.{Point}
-use Rattle.single_agent.specs.declared.act.Running.{Running}
-use Rattle.single_agent.specs.declared.outcome.Outcome.{Outcome}
-use Rattle.single_agent.specs.declared.request.Request.{Request}
-use Rattle.single_agent.specs.declared.step.OpName.{OpName}
-use Rattle.single_agent.specs.Decision.{rules_of, exchange}
-use Rattle.single_agent.specs.StepAnswer.{Sight, perform, changed}
-use Rattle.single_agent.specs.declared.step.Step.{Step}
-use Rattle.single_agent.specs.NextTask.{next_task, task_entry}
-use Rattle.single_agent.specs.Registers.{task_written}
-use Rattle.single_agent.specs.NextAct.{newest_length, is_lost, has_stopped, Left, left_on, step_left, running, started_at, starts, one_more, op_of, registers, registers_after, is_seen_by, shown_to, document_of, shown_stores, sight_on, stores_after, stores, sight, move_by, move_of, next_move, kind_of, answer_of}
+use Rattle.agent_terms.specs.declared.session.Session.{Session}
+use Rattle.agent_terms.specs.declared.act.Act.{Act}
+use Rattle.agent_terms.specs.declared.act.Act.TheVariants.{Step as StepAct, Task}
+use Rattle.agent_terms.specs.declared.act.Answer.{Answer}
+use Rattle.agent_terms.specs.declared.act.Answer.TheVariants as answer
+use Rattle.agent_terms.specs.declared.act.Move.TheVariants.{Asks, Takes, Stays}
+use Rattle.agent_terms.specs.declared.act.Point.{Point}
+use Rattle.agent_terms.specs.declared.act.Running.{Running}
+use Rattle.agent_terms.specs.declared.outcome.Outcome.{Outcome}
+use Rattle.agent_terms.specs.declared.request.Request.{Request}
+use Rattle.agent_terms.specs.declared.step.OpName.{OpName}
+use Rattle.coordinator_rules.specs.Decision.{rules_of, exchange}
+use Rattle.object_access.specs.StepAnswer.{Sight, perform, step_stores}
+use Rattle.agent_terms.specs.declared.step.Step.{Step}
+use Rattle.coordinator_rules.specs.NextTask.{next_task, task_entry}
+use Rattle.object_access.specs.Registers.{task_written}
+use Rattle.single_agent.specs.Lengths.{newest_length, is_lost, has_stopped}
+use Rattle.single_agent.specs.Running.{Left, left_on, step_left, running, started_at, starts, one_more}
+use Rattle.single_agent.specs.NextMove.{op_of, move_by, move_of, next_move}
+use Rattle.single_agent.specs.Sights.{registers, registers_after, sight_on, stores_after, stores, sight}
+use Rattle.single_agent.specs.Shown.{is_seen_by, shown_to, document_of, shown_stores}
+use Rattle.single_agent.specs.NextAct.{kind_of, answer_of}
 use Rattle.single_agent.proofs.Grown.{Within, newest_within, prefix_grown, running_grown, left_grown, registers_grown, stores_grown}
 use Rattle.single_agent.proofs.Legal.{act_kept}
 use Rattle.single_agent.proofs.Mine.{mine_now, mine_grown, commit_mine}
 use Rattle.tree_log.proofs.BlankLaws.{tree_of-blanked}
 use Rattle.agent_laws.specs.Belonging.{RegistersBelong, IsClosed}
-use Rattle.agent_laws.proofs.BlankedSteps.{sight_with, changed_same}
-use Rattle.agent_laws.proofs.KeptStores.{perform_in_group}
+use Rattle.agent_laws.proofs.Blanked.BlankedSteps.{sight_with, changed_same}
+use Rattle.agent_laws.proofs.Blanked.KeptStores.{perform_in_group}
 use Rattle.session_player.specs.Quiet.{is_commit}
 use Rattle.session_player.specs.Serves.{Ledger}
 use Rattle.session_player.specs.Steps.{Holds, IsOwnRun, IsSound, ActsLocally, ActsByAsking, ActsByTask, IsIdle, sight_in, left_now, move_now, stores_then}
@@ -75,9 +80,9 @@ perform_shown log registers stores d st all closed lt belong =
     perform_in_group (is_seen_by (tree_of log) d) log registers stores (shown_stores (tree_of log) d stores) d st all (λ e seen. seen) (held_group log registers stores d closed lt belong) (agrees log stores d)
 
 changed_shown : (log : List Entry) (registers : ℕ → List ℕ → Value) (stores : Object → Store) (d : ℕ) (st : Step)
-    → changed (record (sight_on log registers stores d) { stores = stores }) d st ≡ changed (sight_with (tree_of log) (url_of log) registers stores) d st
+    → step_stores (record (sight_on log registers stores d) { stores = stores }) d st ≡ step_stores (sight_with (tree_of log) (url_of log) registers stores) d st
 changed_shown log registers stores d st =
-    ap (λ (t : Tree). changed (sight_with t (url_of (shown_to d log)) registers stores) d st) (tree_of-blanked (is_seen_by (tree_of log) d) log)
+    ap (λ (t : Tree). step_stores (sight_with t (url_of (shown_to d log)) registers stores) d st) (tree_of-blanked (is_seen_by (tree_of log) d) log)
     ∙ changed_same (tree_of log) (url_of (shown_to d log)) (url_of log) registers stores d st
 
 prefix_admitted : (k : ℕ) (log : List Entry) → AreAdmitted log → AreAdmitted (prefix k log)
@@ -139,7 +144,7 @@ stores_at s r log acts told w k None e = k.stores
 stores_at s r log acts told w k (Some left) e =
     let h = at_step s r log acts told w k left e in
     let p : List Entry = prefix (newest_length acts) log in
-    ap (λ (see : Sight). changed see left.doc left.step) (sight_is s log acts w h.tree h.urls k.registers k.stores)
+    ap (λ (see : Sight). step_stores see left.doc left.step) (sight_is s log acts w h.tree h.urls k.registers k.stores)
     ∙ sym (changed_shown p (registers s log acts) (stores s log acts) left.doc left.step)
 
 stores_are : (s : Session) (r : ℕ) (log : List Entry) (acts : List Act) (told : ℕ) (w : Holds) → Keeps s r log acts told w

@@ -2,20 +2,20 @@
 use Rattle.std.proofs.Common.{◌≡◌, ℕ, List, [], ◌∷◌, length, Option, Some, None, Bool, true, false, refl, sym, ap, ◌∙◌, inl, inr}
 use mathlib.Core.Logic.{◌⊎◌}
 use Rattle.std.specs.Prelude.{if◌then◌else◌}
+use Rattle.std.specs.Option.{option_or}
 use Rattle.window_props.specs.declared.value.Value.{Value}
 use Rattle.tree_log.specs.declared.entry.Entry.{Entry}
 use Rattle.tree_log.specs.declared.entry.Load.{Load}
 use Rattle.tree_log.specs.declared.entry.What.{What}
 use Rattle.tree_log.specs.declared.entry.What.TheVariants.{Open, Frame, Drop, Begin, Commit, Post, Closing, Sync}
-use Rattle.tree_log.specs.Facts.{or_else}
 use Rattle.tree_log.specs.Tree.{Tree, tree_of, children_of}
 use Rattle.tree_log.proofs.Admitted.{both}
-use Rattle.single_agent.specs.declared.request.Request.{Request}
-use Rattle.single_agent.specs.declared.request.Request.TheVariants as ask
-use Rattle.single_agent.specs.Navigation.{is_in}
-use Rattle.single_agent.specs.NextTask.{load_waits, load_task, is_over, task_of, first_task, next_task}
-use Rattle.single_agent.specs.Registers.{task_written}
-use Rattle.single_agent.specs.Decision.{Rules}
+use Rattle.agent_terms.specs.declared.request.Request.{Request}
+use Rattle.agent_terms.specs.declared.request.Request.TheVariants as ask
+use Rattle.coordinator_rules.specs.Navigation.{is_in}
+use Rattle.coordinator_rules.specs.NextTask.{load_waits, load_task, is_over, task_of, first_task, next_task}
+use Rattle.object_access.specs.Registers.{task_written}
+use Rattle.coordinator_rules.specs.Decision.{Rules}
 use Rattle.session_player.specs.declared.requests.Replied.{Replied}
 use Rattle.session_player.specs.Serves.{Decides}
 use Rattle.session_player.specs.Quiet.{is_quiet, are_quiet, is_commit}
@@ -38,7 +38,7 @@ task_commits t over r place (Post _ _ _ _ _) what quiet h = absurd cc
 task_commits t over r place (Closing _) what quiet h = absurd cc
 task_commits t over r place _ what quiet h = absurd cc
 
-either_is : (a b : Option What) (what : What) → or_else a b ≡ Some what → (a ≡ Some what) ⊎ (b ≡ Some what)
+either_is : (a b : Option What) (what : What) → option_or a b ≡ Some what → (a ≡ Some what) ⊎ (b ≡ Some what)
 either_is (Some w) b what h = inl h
 either_is None b what h = inr h
 

@@ -7,10 +7,10 @@ use Rattle.std.proofs.lemmas.Bool.Decides.{nat_tests, eqb_tells}
 use Rattle.std.proofs.lemmas.Nat.{mod-mul-add}
 use Rattle.std.proofs.Math.Nat.{mul-mod_left}
 use Rattle.tree_log.specs.declared.entry.Entry.{Entry}
-use Rattle.single_agent.specs.declared.session.Session.{Session}
-use Rattle.single_agent.specs.declared.act.Act.{Act}
-use Rattle.single_agent.specs.declared.act.Ending.TheVariants as ending
-use Rattle.single_agent.specs.Turns.{Turned, has_act, is_some_act, next_renderer, next_in_rounds, log_of, record_of, told_of, with_act, HasNothing, Does, Plays, IsTurn, Rests}
+use Rattle.agent_terms.specs.declared.session.Session.{Session}
+use Rattle.agent_terms.specs.declared.act.Act.{Act}
+use Rattle.agent_terms.specs.declared.act.Ending.TheVariants as ending
+use Rattle.single_agent.specs.Turns.{Turned, has_act, is_some_act, next_renderer, next_in_rounds, log_of, record_of, told_length, with_act, HasNothing, Does, Plays, IsTurn, Rests}
 use Rattle.session_player.specs.declared.worker.Turn.TheVariants.{Acted, Idle}
 use Rattle.session_player.specs.declared.playing.Round.TheVariants as round
 use Rattle.session_player.specs.Serves.{Ledger}
@@ -85,8 +85,8 @@ idle_does s r log acts told (Some a) own h e = absurd cc
 
 idle_turn : (s : Session) (turns : List Turned) (t : Turned) → s.lose ≡ [] → IsTurn s turns t → has_act t ≡ false → Rests s turns t.renderer × (t.own ≡ []) × (t.act ≡ None)
 idle_turn s turns t none h e =
-    idle_does s t.renderer (log_of s turns) (record_of t.renderer turns) (told_of s t.renderer turns) t.act t.own
-    (subst (λ b. Plays b s t.renderer (log_of s turns) (record_of t.renderer turns) (told_of s t.renderer turns) t.act t.own) (loses_none s turns t.renderer none) h.plays) e
+    idle_does s t.renderer (log_of s turns) (record_of t.renderer turns) (told_length s t.renderer turns) t.act t.own
+    (subst (λ b. Plays b s t.renderer (log_of s turns) (record_of t.renderer turns) (told_length s t.renderer turns) t.act t.own) (loses_none s turns t.renderer none) h.plays) e
 
 same_record : (r : ℕ) (t : Turned) (turns : List Turned) → t.act ≡ None → record_of r turns ≡ record_of r (t ∷ turns)
 unfolding record_of

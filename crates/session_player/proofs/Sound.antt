@@ -11,40 +11,43 @@ use Rattle.tree_log.specs.Log.{prefix}
 use Rattle.tree_log.specs.Tree.{Tree, tree_of, is_active}
 use Rattle.tree_log.specs.Urls.{url_of}
 use Rattle.tree_log.specs.Admits.{AreAdmitted}
-use Rattle.single_agent.specs.declared.session.Session.{Session}
-use Rattle.single_agent.specs.declared.step.Step.{Step}
-use Rattle.single_agent.specs.declared.act.Answer.{Answer as AnswerOf}
-use Rattle.single_agent.specs.declared.act.Answer.TheVariants as answer
-use Rattle.single_agent.specs.declared.act.Performed.{Performed}
-use Rattle.single_agent.specs.declared.act.Performed.TheVariants.{Answer, Ask}
-use Rattle.single_agent.specs.declared.act.Move.TheVariants.{Answers, Asks}
-use Rattle.single_agent.specs.declared.act.Point.{Point}
-use Rattle.single_agent.specs.declared.act.Running.{Running}
-use Rattle.single_agent.specs.declared.outcome.Outcome.{Outcome}
-use Rattle.single_agent.specs.declared.outcome.Outcome.TheVariants as outcome
+use Rattle.agent_terms.specs.declared.session.Session.{Session}
+use Rattle.agent_terms.specs.declared.step.Step.{Step}
+use Rattle.agent_terms.specs.declared.act.Answer.{Answer as AnswerOf}
+use Rattle.agent_terms.specs.declared.act.Answer.TheVariants as answer
+use Rattle.agent_terms.specs.declared.act.Performed.{Performed}
+use Rattle.agent_terms.specs.declared.act.Performed.TheVariants.{Answer, Ask}
+use Rattle.agent_terms.specs.declared.act.Move.TheVariants.{Answers, Asks}
+use Rattle.agent_terms.specs.declared.act.Point.{Point}
+use Rattle.agent_terms.specs.declared.act.Running.{Running}
+use Rattle.agent_terms.specs.declared.outcome.Outcome.{Outcome}
+use Rattle.agent_terms.specs.declared.outcome.Outcome.TheVariants as outcome
 use Rattle.tree_log.specs.declared.entry.What.{What}
-use Rattle.single_agent.specs.declared.request.Request.{Request}
-use Rattle.single_agent.specs.declared.request.Request.TheVariants as ask
-use Rattle.single_agent.specs.declared.request.ReplyOutcome.{ReplyOutcome}
-use Rattle.single_agent.specs.declared.request.ReplyOutcome.TheVariants as reply
-use Rattle.single_agent.specs.declared.step.OpName.{OpName}
-use Rattle.single_agent.specs.declared.step.OpName.TheVariants as op
+use Rattle.agent_terms.specs.declared.request.Request.{Request}
+use Rattle.agent_terms.specs.declared.request.Request.TheVariants as ask
+use Rattle.agent_terms.specs.declared.request.ReplyOutcome.{ReplyOutcome}
+use Rattle.agent_terms.specs.declared.request.ReplyOutcome.TheVariants as reply
+use Rattle.agent_terms.specs.declared.step.OpName.{OpName}
+use Rattle.agent_terms.specs.declared.step.OpName.TheVariants as op
 use Rattle.single_agent.specs.Session.{steps_of}
-use Rattle.single_agent.specs.Registers.{written, to_of, value_in, written_to}
-use Rattle.single_agent.specs.Values.{null}
-use Rattle.single_agent.specs.NextTask.{next_task, task_entry}
-use Rattle.single_agent.specs.Decision.{Rules, rules_of, Decision, task_decision, exchange, asker_of}
-use Rattle.single_agent.specs.StepAnswer.{Sight, perform}
-use Rattle.single_agent.specs.NextAct.{Left, made_before, left_at, left_on, registers_after, rule_of, done_of, answer_of, op_of, move_by, move_of}
+use Rattle.object_access.specs.Registers.{written, to_of, value_in, written_to}
+use Rattle.object_access.specs.Values.{null}
+use Rattle.coordinator_rules.specs.NextTask.{next_task, task_entry}
+use Rattle.coordinator_rules.specs.Decision.{Rules, rules_of, Decision, task_decision, exchange, asker_of}
+use Rattle.object_access.specs.StepAnswer.{Sight, perform}
+use Rattle.single_agent.specs.Running.{Left, made_before, left_at, left_on}
+use Rattle.single_agent.specs.Sights.{registers_after}
+use Rattle.single_agent.specs.NextAct.{rule_of, done_of, answer_of}
+use Rattle.single_agent.specs.NextMove.{op_of, move_by, move_of}
 use Rattle.single_agent.proofs.Made.{next_gives}
 use Rattle.agent_laws.specs.Belonging.{Belongs, RegistersBelong, StoresBelong, IsClosed}
 use Rattle.agent_laws.specs.Sights.{HoldsGroup}
-use Rattle.agent_laws.proofs.Groups.{registers_grown, stores_grown}
-use Rattle.agent_laws.proofs.Reached.{held_belongs}
-use Rattle.agent_laws.proofs.Changed.{answer_belongs, changed_belongs}
-use Rattle.agent_laws.proofs.Closed.{closed_exchange}
-use Rattle.agent_laws.proofs.MadeWindows.{made_belongs}
-use Rattle.agent_laws.proofs.Asked.{IsAskedBy, asked_by}
+use Rattle.agent_laws.proofs.Groups.Grouped.{registers_grown, stores_grown}
+use Rattle.agent_laws.proofs.Groups.Reached.{held_belongs}
+use Rattle.agent_laws.proofs.Groups.Changed.{answer_belongs, changed_belongs}
+use Rattle.agent_laws.proofs.Groups.Closed.{closed_exchange}
+use Rattle.agent_laws.proofs.Groups.MadeWindows.{made_belongs}
+use Rattle.agent_laws.proofs.Logs.Asked.{IsAskedBy, asked_by}
 use Rattle.script_steps.specs.Reached.{IsValueThere}
 use Rattle.session_player.specs.Steps.{Holds, IsSound, IsOwnRun, ActsLocally, ActsByAsking, sight_in, left_now, move_now, stores_then}
 use Rattle.session_player.specs.Serves.{Ledger}

@@ -2,23 +2,25 @@
 use Rattle.std.proofs.Common.{◌≡◌, ℕ, ◌+◌, ◌<◌, length, Option, Some, None, true, refl, sym, ap, subst, ◌∙◌}
 use Rattle.std.specs.Prelude.{IsTrue}
 use Rattle.tree_log.specs.Tree.{tree_of}
-use Rattle.single_agent.specs.declared.session.Session.{Session}
-use Rattle.single_agent.specs.declared.step.Step.{Step}
-use Rattle.single_agent.specs.declared.act.Move.{Move}
-use Rattle.single_agent.specs.declared.act.Move.TheVariants.{Answers, Asks, Takes}
-use Rattle.single_agent.specs.declared.act.Performed.{Performed}
-use Rattle.single_agent.specs.declared.act.Performed.TheVariants.{Answer, Ask}
-use Rattle.single_agent.specs.declared.act.Point.{Point}
-use Rattle.single_agent.specs.declared.act.Point.TheVariants.{Script, Handler}
-use Rattle.single_agent.specs.declared.outcome.Outcome.{Outcome}
-use Rattle.single_agent.specs.declared.request.Request.{Request}
-use Rattle.single_agent.specs.declared.step.OpName.{OpName}
-use Rattle.single_agent.specs.Decision.{asker_of}
-use Rattle.single_agent.specs.StepAnswer.{Sight, perform}
-use Rattle.single_agent.specs.NextAct.{Left, made_before, next_point, move_by, move_of, op_of}
-use Rattle.single_agent.specs.Turns.{most_acts, HasRoom, needs_room}
-use Rattle.agent_laws.proofs.Asked.{IsAskedBy, asked_by}
-use Rattle.script_steps.specs.Built.{is_built, is_made}
+use Rattle.agent_terms.specs.declared.session.Session.{Session}
+use Rattle.agent_terms.specs.declared.step.Step.{Step}
+use Rattle.agent_terms.specs.declared.act.Move.{Move}
+use Rattle.agent_terms.specs.declared.act.Move.TheVariants.{Answers, Asks, Takes}
+use Rattle.agent_terms.specs.declared.act.Performed.{Performed}
+use Rattle.agent_terms.specs.declared.act.Performed.TheVariants.{Answer, Ask}
+use Rattle.agent_terms.specs.declared.act.Point.{Point}
+use Rattle.agent_terms.specs.declared.act.Point.TheVariants.{Script, Handler}
+use Rattle.agent_terms.specs.declared.outcome.Outcome.{Outcome}
+use Rattle.agent_terms.specs.declared.request.Request.{Request}
+use Rattle.agent_terms.specs.declared.step.OpName.{OpName}
+use Rattle.coordinator_rules.specs.Decision.{asker_of}
+use Rattle.object_access.specs.StepAnswer.{Sight, perform}
+use Rattle.single_agent.specs.Running.{Left, made_before, next_point}
+use Rattle.single_agent.specs.NextMove.{move_by, move_of, op_of}
+use Rattle.single_agent.specs.Turns.{HasRoom, needs_room}
+use Rattle.agent_terms.specs.Limits.{most_acts}
+use Rattle.agent_laws.proofs.Logs.Asked.{IsAskedBy, asked_by}
+use Rattle.agent_terms.specs.Built.{is_built, is_made}
 use Rattle.script_steps.proofs.BuiltLaws.{made_by_built}
 use Rattle.session_player.specs.declared.worker.Turn.{Turn}
 use Rattle.session_player.specs.declared.worker.Turn.TheVariants.{Acted, Idle, Full, ActsFull, BadReply}

@@ -4,7 +4,7 @@ use Rattle.std.specs.Prelude.{◌==◌, ◌&&◌, bytes_eq, if◌then◌else◌}
 use Rattle.window_props.specs.declared.value.Value.{Value}
 use Rattle.window_props.specs.declared.value.Value.TheVariants as value
 use Rattle.tree_log.specs.Tree.{Tree}
-use Rattle.single_agent.specs.Registers.{written, written_to}
+use Rattle.object_access.specs.Registers.{written, written_to}
 use Rattle.script_steps.specs.Reached.{IsValueThere}
 use Rattle.session_player.specs.There.{AllThere}
 

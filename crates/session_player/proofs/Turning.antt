@@ -7,24 +7,29 @@ use Rattle.tree_log.specs.declared.entry.Entry.{Entry}
 use Rattle.tree_log.specs.Log.{prefix}
 use Rattle.tree_log.specs.Tree.{tree_of}
 use Rattle.tree_log.specs.Urls.{url_of}
-use Rattle.single_agent.specs.declared.session.Session.{Session}
-use Rattle.single_agent.specs.declared.session.Lose.{Lose}
-use Rattle.single_agent.specs.declared.act.Act.{Act}
-use Rattle.single_agent.specs.declared.act.Act.TheVariants.{Step as StepAct, Task}
-use Rattle.single_agent.specs.declared.act.Answer.TheVariants as answer
-use Rattle.single_agent.specs.declared.act.Move.{Move}
-use Rattle.single_agent.specs.declared.act.Move.TheVariants.{Answers, Asks, Takes, Stays}
-use Rattle.single_agent.specs.NextTask.{task_entry}
+use Rattle.agent_terms.specs.declared.session.Session.{Session}
+use Rattle.agent_terms.specs.declared.session.Lose.{Lose}
+use Rattle.agent_terms.specs.declared.act.Act.{Act}
+use Rattle.agent_terms.specs.declared.act.Act.TheVariants.{Step as StepAct, Task}
+use Rattle.agent_terms.specs.declared.act.Answer.TheVariants as answer
+use Rattle.agent_terms.specs.declared.act.Move.{Move}
+use Rattle.agent_terms.specs.declared.act.Move.TheVariants.{Answers, Asks, Takes, Stays}
+use Rattle.coordinator_rules.specs.NextTask.{task_entry}
 use Rattle.tree_log.specs.Admits.{AreAdmitted}
-use Rattle.single_agent.specs.Decision.{rules_of, exchange}
-use Rattle.single_agent.specs.NextAct.{newest_length, has_stopped, step_left, sight, move_of, next_move, kind_of, MovesTo, IsActOn}
-use Rattle.single_agent.specs.declared.act.Point.{Point}
-use Rattle.single_agent.specs.declared.outcome.Outcome.{Outcome}
-use Rattle.single_agent.specs.declared.request.Request.{Request}
-use Rattle.single_agent.specs.declared.step.OpName.{OpName}
+use Rattle.coordinator_rules.specs.Decision.{rules_of, exchange}
+use Rattle.single_agent.specs.Lengths.{newest_length, has_stopped}
+use Rattle.single_agent.specs.Running.{step_left}
+use Rattle.single_agent.specs.Sights.{sight}
+use Rattle.single_agent.specs.NextMove.{move_of, next_move}
+use Rattle.single_agent.specs.NextAct.{kind_of, MovesTo, IsActOn}
+use Rattle.agent_terms.specs.declared.act.Point.{Point}
+use Rattle.agent_terms.specs.declared.outcome.Outcome.{Outcome}
+use Rattle.agent_terms.specs.declared.request.Request.{Request}
+use Rattle.agent_terms.specs.declared.step.OpName.{OpName}
 use Rattle.agent_laws.specs.Belonging.{IsClosed}
-use Rattle.agent_laws.proofs.ClosedLogs.{closed_played}
-use Rattle.single_agent.specs.Turns.{Turned, log_of, with_act, record_of, is_exchange, calls_of, counts, is_named, is_losing, told_of, next_renderer, needs_room, loses_next, HasRoom, Does, Plays, most_acts}
+use Rattle.agent_laws.proofs.Groups.ClosedLogs.{closed_played}
+use Rattle.single_agent.specs.Turns.{Turned, log_of, with_act, record_of, is_exchange, calls_of, counts, is_named, is_losing, told_length, next_renderer, needs_room, loses_next, HasRoom, Does, Plays}
+use Rattle.agent_terms.specs.Limits.{most_acts}
 use Rattle.single_agent.proofs.Grown.{Within}
 use Rattle.single_agent.proofs.Legal.{acts_within}
 use Rattle.single_agent.proofs.Played.{legal_record, record_own, record_not}
@@ -71,16 +76,16 @@ heard_if true false x y h = refl
 heard_if false lost x y h = refl
 
 told_own : (s : Session) (t : Turned) (older : List Turned) → s.lose ≡ []
-    → told_of s t.renderer (t ∷ older) ≡ (if is_exchange (next_move s (log_of s older) (record_of t.renderer older)) then length (t.own ++ log_of s older) else told_of s t.renderer older)
-unfolding told_of
+    → told_length s t.renderer (t ∷ older) ≡ (if is_exchange (next_move s (log_of s older) (record_of t.renderer older)) then length (t.own ++ log_of s older) else told_length s t.renderer older)
+unfolding told_length
 told_own s t older none =
     ap (λ b. if b && is_exchange (next_move s (log_of s older) (record_of t.renderer older)) && not (is_losing s t.renderer (log_of s older) (record_of t.renderer older))
-    then length (t.own ++ log_of s older) else told_of s t.renderer older) (eq-eqb t.renderer t.renderer refl)
-    ∙ heard_if (is_exchange (next_move s (log_of s older) (record_of t.renderer older))) (is_losing s t.renderer (log_of s older) (record_of t.renderer older)) (length (t.own ++ log_of s older)) (told_of s t.renderer older)
+    then length (t.own ++ log_of s older) else told_length s t.renderer older) (eq-eqb t.renderer t.renderer refl)
+    ∙ heard_if (is_exchange (next_move s (log_of s older) (record_of t.renderer older))) (is_losing s t.renderer (log_of s older) (record_of t.renderer older)) (length (t.own ++ log_of s older)) (told_length s t.renderer older)
     (none_lost s t.renderer (log_of s older) (record_of t.renderer older) none)
 
-told_not : (s : Session) (q : ℕ) (t : Turned) (older : List Turned) → t.renderer ≢ q → told_of s q (t ∷ older) ≡ told_of s q older
-unfolding told_of
+told_not : (s : Session) (q : ℕ) (t : Turned) (older : List Turned) → t.renderer ≢ q → told_length s q (t ∷ older) ≡ told_length s q older
+unfolding told_length
 told_not s q t older other = elim (eqb_tells t.renderer q) [ inl p ↦ absurd (other p.1) | inr p ↦ rw p.0 refl ]
 
 log_more : (s : Session) (t : Turned) (older : List Turned) → log_of s (t ∷ older) ≡ t.own ++ log_of s older
@@ -92,7 +97,7 @@ some_left s log acts mv goes e other none = other (sym e ∙ going_on s log acts
 
 module _ (s : Session) (turns : List Turned) (tl : List ℕ) (m : Ledger) (seats : List Seat) (n : ℕ) (x y : Seat) (here : slice_get seats n ≡ Some x) (within : n < length seats)
     (u : IsUnderway s turns (ledger (log_of s turns) tl) seats) (due : next_renderer s turns ≡ Some n) where
-  keeps : Keeps s n (log_of s turns) (record_of n turns) (told_of s n turns) x.holds
+  keeps : Keeps s n (log_of s turns) (record_of n turns) (told_length s n turns) x.holds
   keeps = u.seated n x here
 
   there : n < s.renderers
@@ -112,7 +117,7 @@ module _ (s : Session) (turns : List Turned) (tl : List ℕ) (m : Ledger) (seats
 -- what the new worker holds, and the log that it left
 module _ (s : Session) (turns : List Turned) (tl : List ℕ) (m : Ledger) (seats : List Seat) (n : ℕ) (x y : Seat) (here : slice_get seats n ≡ Some x) (within : n < length seats)
     (u : IsUnderway s turns (ledger (log_of s turns) tl) seats) (due : next_renderer s turns ≡ Some n) (all : AreAdmitted m.log) where
-  kept : Keeps s n (log_of s turns) (record_of n turns) (told_of s n turns) x.holds
+  kept : Keeps s n (log_of s turns) (record_of n turns) (told_length s n turns) x.holds
   kept = u.seated n x here
 
   here_there : n < s.renderers
@@ -122,7 +127,7 @@ module _ (s : Session) (turns : List Turned) (tl : List ℕ) (m : Ledger) (seats
   all_within = let legal = legal_record s n turns u.played in acts_within s n (log_of s turns) (record_of n turns) legal.0 legal.1
 
   move_at : move_now s x.holds ≡ next_move s (log_of s turns) (record_of n turns)
-  move_at = move_is s n (log_of s turns) (record_of n turns) (told_of s n turns) x.holds u.admitted kept
+  move_at = move_is s n (log_of s turns) (record_of n turns) (told_length s n turns) x.holds u.admitted kept
 
   short : length (log_of s turns) < 2 ^ 30
   short = omega (arith, u.few)
@@ -137,15 +142,15 @@ module _ (s : Session) (turns : List Turned) (tl : List ℕ) (m : Ledger) (seats
   asking_sound : (doc : ℕ) (point : Point) (op : OpName) (q : Request) → next_move s (log_of s turns) (record_of n turns) ≡ Asks doc point op q
       → ActsBy s n (Asks doc point op q) x.holds (ledger (log_of s turns) tl) y.holds m → IsSound y.holds
   asking_sound doc point op q e a =
-      sound_asks s n (told_of s n turns) x.holds y.holds (ledger (log_of s turns) tl) m kept.own kept.sound doc point op q (move_at ∙ e) a u.admitted short closed (subst AreAdmitted a.log all) kept.tree
+      sound_asks s n (told_length s n turns) x.holds y.holds (ledger (log_of s turns) tl) m kept.own kept.sound doc point op q (move_at ∙ e) a u.admitted short closed (subst AreAdmitted a.log all) kept.tree
 
   task_sound : ActsByTask n x.holds (ledger (log_of s turns) tl) y.holds m → IsSound y.holds
   task_sound a =
-      sound_heard (task_entry n a.what ∷ []) (log_of s turns) (told_of s n turns) x.holds y.holds (subst AreAdmitted a.log all) (closed_task (rules_of s) (log_of s turns) n a.what u.admitted short closed a.next) kept.sound kept.tree
+      sound_heard (task_entry n a.what ∷ []) (log_of s turns) (told_length s n turns) x.holds y.holds (subst AreAdmitted a.log all) (closed_task (rules_of s) (log_of s turns) n a.what u.admitted short closed a.next) kept.sound kept.tree
       (a.all.tree ∙ ap tree_of a.log) a.registers a.stores
 
   idle_sound : IsIdle n x.holds (ledger (log_of s turns) tl) y.holds m → IsSound y.holds
-  idle_sound a = sound_heard [] (log_of s turns) (told_of s n turns) x.holds y.holds u.admitted closed kept.sound kept.tree (a.all.tree ∙ ap tree_of a.log) a.registers a.stores
+  idle_sound a = sound_heard [] (log_of s turns) (told_length s n turns) x.holds y.holds u.admitted closed kept.sound kept.tree (a.all.tree ∙ ap tree_of a.log) a.registers a.stores
 
   lossless : loses_next s turns n ≡ false
   lossless = loses_none s turns n u.lossless
@@ -155,14 +160,14 @@ module _ (s : Session) (turns : List Turned) (tl : List ℕ) (m : Ledger) (seats
 
   -- one more turn of n
   more : (act : Option Act) (own : List Entry) → length x.holds.acts < most_acts → (IsTrue (needs_room (tree_of (log_of s turns)) n (next_move s (log_of s turns) (record_of n turns))) → HasRoom (log_of s turns))
-      → Does s n (log_of s turns) (record_of n turns) (told_of s n turns) act own
-      → m.log ≡ own ++ log_of s turns → length m.log ≤ 20000 → (told' : ℕ) → told' ≡ (if is_exchange (next_move s (log_of s turns) (record_of n turns)) then length (own ++ log_of s turns) else told_of s n turns)
+      → Does s n (log_of s turns) (record_of n turns) (told_length s n turns) act own
+      → m.log ≡ own ++ log_of s turns → length m.log ≤ 20000 → (told' : ℕ) → told' ≡ (if is_exchange (next_move s (log_of s turns) (record_of n turns)) then length (own ++ log_of s turns) else told_length s n turns)
       → get_or m.told n 0 ≡ told' → ((r : ℕ) → n ≢ r → get_or m.told r 0 ≡ get_or tl r 0) → length m.told ≡ length tl
       → Keeps s n (own ++ log_of s turns) (with_act act (record_of n turns)) told' y.holds
       → IsUnderway s (record { renderer = n; act = act; own = own } ∷ turns) m (slice_set seats n y)
   more act own fewer room plays grown few told' told_is told_here told_there same_length keeps' =
       let t : Turned = record { renderer = n; act = act; own = own } in
-      let told_new : told' ≡ told_of s n (t ∷ turns) = told_is ∙ sym (told_own s t turns u.lossless) in
+      let told_new : told' ≡ told_length s n (t ∷ turns) = told_is ∙ sym (told_own s t turns u.lossless) in
       let log_new = log_more s t turns in
       record {
         lossless = u.lossless;
@@ -172,34 +177,34 @@ module _ (s : Session) (turns : List Turned) (tl : List ℕ) (m : Ledger) (seats
             there = here_there;
             fewer = λ h. fewer_at fewer;
             room = λ h. room h.1;
-            plays = subst (λ b. Plays b s n (log_of s turns) (record_of n turns) (told_of s n turns) act own) (sym lossless) plays;
+            plays = subst (λ b. Plays b s n (log_of s turns) (record_of n turns) (told_length s n turns) act own) (sym lossless) plays;
           },
           u.played,
         );
         log = grown ∙ sym log_new;
         told = λ r. elim (eqb_tells n r) [
-          | inl p ↦ subst (λ k. get_or m.told k 0 ≡ told_of s k (t ∷ turns)) p.1 (told_here ∙ told_new)
+          | inl p ↦ subst (λ k. get_or m.told k 0 ≡ told_length s k (t ∷ turns)) p.1 (told_here ∙ told_new)
           | inr p ↦ told_there r p.1 ∙ u.told r ∙ sym (told_not s r t turns p.1)
         ];
         many = same_length ∙ u.many;
         count = set_length seats n y ∙ u.count;
         few = few;
         admitted = all;
-        seated = λ r z at. subst (λ (g : List Entry). Keeps s r g (record_of r (t ∷ turns)) (told_of s r (t ∷ turns)) z.holds) (sym log_new) (elim (eqb_tells n r) [
+        seated = λ r z at. subst (λ (g : List Entry). Keeps s r g (record_of r (t ∷ turns)) (told_length s r (t ∷ turns)) z.holds) (sym log_new) (elim (eqb_tells n r) [
           | inl p ↦
               let at_n : slice_get (slice_set seats n y) n ≡ Some z = subst (λ k. slice_get (slice_set seats n y) k ≡ Some z) (sym p.1) at in
               let same : Some y ≡ Some z = sym (set_same seats n y within) ∙ at_n in
               let z_is : y ≡ z = cc in
-              subst (λ k. Keeps s k (own ++ log_of s turns) (record_of k (t ∷ turns)) (told_of s k (t ∷ turns)) z.holds) p.1
-              (subst (λ (q : Seat). Keeps s n (own ++ log_of s turns) (record_of n (t ∷ turns)) (told_of s n (t ∷ turns)) q.holds) z_is
+              subst (λ k. Keeps s k (own ++ log_of s turns) (record_of k (t ∷ turns)) (told_length s k (t ∷ turns)) z.holds) p.1
+              (subst (λ (q : Seat). Keeps s n (own ++ log_of s turns) (record_of n (t ∷ turns)) (told_length s n (t ∷ turns)) q.holds) z_is
               (subst (λ k. Keeps s n (own ++ log_of s turns) (record_of n (t ∷ turns)) k y.holds) told_new
               (subst (λ (a : List Act). Keeps s n (own ++ log_of s turns) a told' y.holds) (sym (record_own t turns)) keeps')))
           | inr p ↦
-              let k : Keeps s r (log_of s turns) (record_of r turns) (told_of s r turns) z.holds = u.seated r z (sym (set_other seats n r y p.1) ∙ at) in
+              let k : Keeps s r (log_of s turns) (record_of r turns) (told_length s r turns) z.holds = u.seated r z (sym (set_other seats n r y p.1) ∙ at) in
               let legal = legal_record s r turns u.played in
               let w : Within (length (log_of s turns)) (record_of r turns) = acts_within s r (log_of s turns) (record_of r turns) legal.0 legal.1 in
               subst (λ j. Keeps s r (own ++ log_of s turns) (record_of r (t ∷ turns)) j z.holds) (sym (told_not s r t turns p.1))
-              (subst (λ (a : List Act). Keeps s r (own ++ log_of s turns) a (told_of s r turns) z.holds) (sym (record_not r t turns p.1)) (kept_other s r own (log_of s turns) (record_of r turns) (told_of s r turns) z.holds k w))
+              (subst (λ (a : List Act). Keeps s r (own ++ log_of s turns) a (told_length s r turns) z.holds) (sym (record_not r t turns p.1)) (kept_other s r own (log_of s turns) (record_of r turns) (told_length s r turns) z.holds k w))
         ]);
       }
 
@@ -219,17 +224,17 @@ module _ (s : Session) (turns : List Turned) (tl : List ℕ) (m : Ledger) (seats
       → ActsBy s n mv x.holds (ledger (log_of s turns) tl) y.holds m → TurnEnds s turns n seats Acted m (slice_set seats n y)
   acted (Answers doc point op outcome) e fewer room a =
       let some : step_left s (log_of s turns) (record_of n turns) ≡ None → ⊥ = some_left s (log_of s turns) (record_of n turns) (Answers doc point op outcome) kept.goes_on e (λ h. cc) in
-      let lev : told_of s n turns ≡ newest_length (record_of n turns) = level s (log_of s turns) (record_of n turns) (told_of s n turns) x.holds.run kept.run some in
-      let act : Act = StepAct (told_of s n turns) doc point op (answer.Outcome outcome) in
+      let lev : told_length s n turns ≡ newest_length (record_of n turns) = level s (log_of s turns) (record_of n turns) (told_length s n turns) x.holds.run kept.run some in
+      let act : Act = StepAct (told_length s n turns) doc point op (answer.Outcome outcome) in
       let moves : IsActOn s n (log_of s turns) (record_of n turns) act [] =
       subst (λ (k : Move). MovesTo (rules_of s) n (log_of s turns) (record_of n turns) k act []) (sym e) (ap (λ k. StepAct k doc point op (answer.Outcome outcome)) lev, refl) in (
         record { renderer = n; act = Some act; own = [] },
         refl,
         refl,
         more (Some act) [] fewer (λ h. room (subst (λ (k : Move). IsTrue (needs_room (tree_of (log_of s turns)) n k)) e h)) (moves, omega arith) (ap (λ (q : Ledger). q.log) a.ledger) (omega (arith, u.few, ap (λ (q : Ledger). length q.log) a.ledger))
-            (told_of s n turns) (sym (ap (λ (k : Move). if is_exchange k then length (log_of s turns) else told_of s n turns) e))
+            (told_length s n turns) (sym (ap (λ (k : Move). if is_exchange k then length (log_of s turns) else told_length s n turns) e))
             (ap (λ (q : Ledger). get_or q.told n 0) a.ledger ∙ u.told n) (λ r other. ap (λ (q : Ledger). get_or q.told r 0) a.ledger) (ap (λ (q : Ledger). length q.told) a.ledger)
-            (kept_local s n (log_of s turns) (record_of n turns) (told_of s n turns) doc point op outcome x.holds y.holds (ledger (log_of s turns) tl) m kept (local_sound doc point op outcome e a) some a),
+            (kept_local s n (log_of s turns) (record_of n turns) (told_length s n turns) doc point op outcome x.holds y.holds (ledger (log_of s turns) tl) m kept (local_sound doc point op outcome e a) some a),
         lesser _ fewer a.acts,
       )
   acted (Asks doc point op q) e fewer room a =
@@ -244,9 +249,9 @@ module _ (s : Session) (turns : List Turned) (tl : List ℕ) (m : Ledger) (seats
         refl,
         refl,
         more (Some act) own fewer (λ h. room (subst (λ (k : Move). IsTrue (needs_room (tree_of (log_of s turns)) n k)) e h)) (moves, omega (arith, kept.within, longer)) a.log (a.few u.few) (length (own ++ log_of s turns))
-            (sym (ap (λ (k : Move). if is_exchange k then length (own ++ log_of s turns) else told_of s n turns) e))
+            (sym (ap (λ (k : Move). if is_exchange k then length (own ++ log_of s turns) else told_length s n turns) e))
             (heard_here a.all ∙ ap length a.log) (heard_there a.all) (heard_length a.all)
-            (kept_asking s n (log_of s turns) (record_of n turns) (told_of s n turns) doc point op q x.holds y.holds (ledger (log_of s turns) tl) m kept (asking_sound doc point op q e a) u.admitted all all_within refl some a),
+            (kept_asking s n (log_of s turns) (record_of n turns) (told_length s n turns) doc point op q x.holds y.holds (ledger (log_of s turns) tl) m kept (asking_sound doc point op q e a) u.admitted all all_within refl some a),
         lesser _ fewer a.acts,
       )
   acted Stays e fewer room a = absurd a
@@ -260,9 +265,9 @@ module _ (s : Session) (turns : List Turned) (tl : List ℕ) (m : Ledger) (seats
         refl,
         refl,
         more (Some act) own fewer (λ h. room refl) (moves, omega (arith, kept.within)) a.log (omega (arith, room refl)) (length (log_of s turns) + 1)
-            (sym (ap (λ (k : Move). if is_exchange k then length (own ++ log_of s turns) else told_of s n turns) e ∙ (omega arith)))
+            (sym (ap (λ (k : Move). if is_exchange k then length (own ++ log_of s turns) else told_length s n turns) e ∙ (omega arith)))
             (heard_here a.all ∙ longer) (heard_there a.all) (heard_length a.all)
-            (kept_task s n (log_of s turns) (record_of n turns) (told_of s n turns) x.holds y.holds (ledger (log_of s turns) tl) m kept (task_sound a) u.admitted all_within refl a),
+            (kept_task s n (log_of s turns) (record_of n turns) (told_length s n turns) x.holds y.holds (ledger (log_of s turns) tl) m kept (task_sound a) u.admitted all_within refl a),
         lesser _ fewer a.acts,
       )
 
@@ -282,9 +287,9 @@ module _ (s : Session) (turns : List Turned) (tl : List ℕ) (m : Ledger) (seats
         refl,
         refl,
         more None [] step.0 (λ h. step.1) (inr (takes, a.none), refl) a.log (omega (arith, u.few, ap length a.log)) (length (log_of s turns))
-            (sym (ap (λ (k : Move). if is_exchange k then length (log_of s turns) else told_of s n turns) takes))
+            (sym (ap (λ (k : Move). if is_exchange k then length (log_of s turns) else told_length s n turns) takes))
             (heard_here a.all ∙ ap length a.log) (heard_there a.all) (heard_length a.all)
-            (kept_idle s n (log_of s turns) (record_of n turns) (told_of s n turns) x.holds y.holds (ledger (log_of s turns) tl) m kept (idle_sound a) all_within refl takes a),
+            (kept_idle s n (log_of s turns) (record_of n turns) (told_length s n turns) x.holds y.holds (ledger (log_of s turns) tl) m kept (idle_sound a) all_within refl takes a),
         omega (arith, left_after seats n x y here, ap length a.acts),
       )
   turned Full step same =

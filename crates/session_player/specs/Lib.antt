@@ -3,5 +3,6 @@ pub mod There
 pub mod Quiet
 pub mod Serves
 pub mod Steps
+pub mod Held
 pub mod Underway
 pub mod ThereProps

@@ -6,13 +6,13 @@ use Rattle.tree_log.specs.declared.entry.What.TheVariants as what
 use Rattle.tree_log.specs.Log.{prefix}
 use Rattle.tree_log.specs.Tree.{Tree, tree_of, is, is_active, nav_of, children_of}
 use Rattle.origin_core.specs.Flags.{union}
-use Rattle.single_agent.specs.declared.request.Request.{Request}
-use Rattle.single_agent.specs.declared.request.Request.TheVariants as ask
-use Rattle.single_agent.specs.declared.request.ReplyOutcome.{ReplyOutcome}
-use Rattle.single_agent.specs.declared.request.ReplyOutcome.TheVariants as outcome
-use Rattle.single_agent.specs.Navigation.{flags_in, is_in}
-use Rattle.single_agent.specs.NextTask.{next_task, task_entry}
-use Rattle.single_agent.specs.Decision.{Rules, asker_of, home_if_active, framed, asked}
+use Rattle.agent_terms.specs.declared.request.Request.{Request}
+use Rattle.agent_terms.specs.declared.request.Request.TheVariants as ask
+use Rattle.agent_terms.specs.declared.request.ReplyOutcome.{ReplyOutcome}
+use Rattle.agent_terms.specs.declared.request.ReplyOutcome.TheVariants as outcome
+use Rattle.coordinator_rules.specs.Navigation.{flags_in, is_in}
+use Rattle.coordinator_rules.specs.NextTask.{next_task, task_entry}
+use Rattle.coordinator_rules.specs.Decision.{Rules, asker_of, home_if_active, frame_entry, asked_decision}
 use Rattle.single_agent.specs.Turns.{HasRoom, IsFull}
 use Rattle.session_player.specs.Quiet.{is_commit}
 use Rattle.session_player.specs.declared.desk.Told.{Told}
@@ -56,7 +56,7 @@ Replies Unloaded o = (place : ℕ) × (o ≡ outcome.Unloaded place)
 abbrev pub Decides : Rules → Tree → Request → What → Replied → Type 0
 Decides rules t (ask.Sync asker) w reply = (w ≡ what.Sync) × (reply ≡ Done)
 Decides rules t (ask.Frame asker name flags url) w reply =
-    (w ≡ framed rules t asker name (union flags (flags_in t (nav_of t asker))) url) × (reply ≡ Made t.navs)
+    (w ≡ frame_entry rules t asker name (union flags (flags_in t (nav_of t asker))) url) × (reply ≡ Made t.navs)
 Decides rules t (ask.Drop asker nav) w reply =
     (w ≡ (if is_in nav (children_of t asker) then what.Drop nav else what.Sync)) × (reply ≡ Done) × (is_in nav (children_of t asker) ≡ true → nav < t.navs)
 Decides rules t _ w reply = ⊥
@@ -65,14 +65,14 @@ abbrev pub is_yours : List Entry → ℕ → Request → Bool
 is_yours log r q = is (home_if_active (tree_of log) (asker_of q)) r
 
 -- renderer r asks
-pub record Answers (rules : Rules) (r : ℕ) (q : Request) (l : Ledger) (reply : Replied) (told : Told) (m : Ledger) : Type 0 where
+pub record AnswersRequest (rules : Rules) (r : ℕ) (q : Request) (l : Ledger) (reply : Replied) (told : Told) (m : Ledger) : Type 0 where
   pub yours : is_yours l.log r q ≡ true
   pub room : is_active (tree_of l.log) (asker_of q) ≡ true → HasRoom l.log
-  pub log : m.log ≡ (asked rules l.log r q).entries ++ l.log
-  pub replies : Replies reply (asked rules l.log r q).outcome
+  pub log : m.log ≡ (asked_decision rules l.log r q).entries ++ l.log
+  pub replies : Replies reply (asked_decision rules l.log r q).outcome
   pub tells : Tells r l.told m told
 
 abbrev pub ServesAsk : Rules → ℕ → Request → Ledger → AskReply → Ledger → Type 0
 ServesAsk rules r q l NotYours m = (is_yours l.log r q ≡ false) × (m ≡ l)
 ServesAsk rules r q l Full m = (is_yours l.log r q ≡ true) × (is_active (tree_of l.log) (asker_of q) ≡ true) × IsFull l.log × (m ≡ l)
-ServesAsk rules r q l (Answered reply told) m = Answers rules r q l reply told m
+ServesAsk rules r q l (Answered reply told) m = AnswersRequest rules r q l reply told m

@@ -9,23 +9,27 @@ use Rattle.tree_log.specs.Log.{prefix}
 use Rattle.tree_log.specs.Tree.{Tree, tree_of}
 use Rattle.tree_log.specs.Urls.{url_of}
 use Rattle.tree_log.specs.Admits.{AreAdmitted}
-use Rattle.single_agent.specs.declared.session.Session.{Session}
-use Rattle.single_agent.specs.declared.act.Act.{Act}
-use Rattle.single_agent.specs.declared.act.Act.TheVariants.{Step as StepAct, Task}
-use Rattle.single_agent.specs.declared.act.Answer.{Answer}
-use Rattle.single_agent.specs.declared.act.Answer.TheVariants as answer
-use Rattle.single_agent.specs.declared.act.Move.{Move}
-use Rattle.single_agent.specs.declared.act.Move.TheVariants.{Answers, Asks, Takes, Stays}
-use Rattle.single_agent.specs.declared.act.Running.{Running}
-use Rattle.single_agent.specs.declared.act.Point.{Point}
-use Rattle.single_agent.specs.declared.outcome.Outcome.{Outcome}
-use Rattle.single_agent.specs.declared.request.Request.{Request}
-use Rattle.single_agent.specs.declared.step.OpName.{OpName}
-use Rattle.single_agent.specs.Decision.{rules_of, exchange}
-use Rattle.single_agent.specs.StepAnswer.{Sight, changed}
-use Rattle.single_agent.specs.NextTask.{next_task, task_entry}
-use Rattle.single_agent.specs.NextAct.{Left, left_on, registers_after, move_of, one_more, starts, kind_of, answer_of}
-use Rattle.single_agent.specs.Turns.{most_acts, HasRoom, IsFull, needs_room}
+use Rattle.agent_terms.specs.declared.session.Session.{Session}
+use Rattle.agent_terms.specs.declared.act.Act.{Act}
+use Rattle.agent_terms.specs.declared.act.Act.TheVariants.{Step as StepAct, Task}
+use Rattle.agent_terms.specs.declared.act.Answer.{Answer}
+use Rattle.agent_terms.specs.declared.act.Answer.TheVariants as answer
+use Rattle.agent_terms.specs.declared.act.Move.{Move}
+use Rattle.agent_terms.specs.declared.act.Move.TheVariants.{Answers, Asks, Takes, Stays}
+use Rattle.agent_terms.specs.declared.act.Running.{Running}
+use Rattle.agent_terms.specs.declared.act.Point.{Point}
+use Rattle.agent_terms.specs.declared.outcome.Outcome.{Outcome}
+use Rattle.agent_terms.specs.declared.request.Request.{Request}
+use Rattle.agent_terms.specs.declared.step.OpName.{OpName}
+use Rattle.coordinator_rules.specs.Decision.{rules_of, exchange}
+use Rattle.object_access.specs.StepAnswer.{Sight, step_stores}
+use Rattle.coordinator_rules.specs.NextTask.{next_task, task_entry}
+use Rattle.single_agent.specs.Running.{Left, left_on, one_more, starts}
+use Rattle.single_agent.specs.Sights.{registers_after}
+use Rattle.single_agent.specs.NextMove.{move_of}
+use Rattle.single_agent.specs.NextAct.{kind_of, answer_of}
+use Rattle.single_agent.specs.Turns.{HasRoom, IsFull, needs_room}
+use Rattle.agent_terms.specs.Limits.{most_acts, most_entries}
 use Rattle.single_agent.proofs.Mine.{IsMine}
 use Rattle.agent_laws.specs.Belonging.{RegistersBelong, StoresBelong, IsClosed}
 use Rattle.session_player.specs.Quiet.{is_commit}
@@ -88,7 +92,7 @@ move_now s w = move_of (λ doc. sight_in w) (left_now s w)
 -- the properties of objects after the step that is left
 abbrev pub stores_then : Option Left → Holds → Object → Store
 stores_then None w = w.stores
-stores_then (Some left) w = changed (sight_in w) left.doc left.step
+stores_then (Some left) w = step_stores (sight_in w) left.doc left.step
 
 -- a step that answered
 pub record ActsLocally (s : Session) (doc : ℕ) (point : Point) (op : OpName) (outcome : Outcome) (w : Holds) (l : Ledger) (v : Holds) (m : Ledger) : Type 0 where
@@ -104,7 +108,7 @@ pub record ActsLocally (s : Session) (doc : ℕ) (point : Point) (op : OpName) (
 -- a step that asked
 pub record ActsByAsking (s : Session) (r doc : ℕ) (point : Point) (op : OpName) (q : Request) (w : Holds) (l : Ledger) (v : Holds) (m : Ledger) : Type 0 where
   pub log : m.log ≡ (exchange (rules_of s) l.log r q).entries ++ l.log
-  pub few : length l.log ≤ 20000 → length m.log ≤ 20000
+  pub few : length l.log ≤ most_entries → length m.log ≤ most_entries
   pub given : Answer
   pub gives : Some given ≡ answer_of op (exchange (rules_of s) l.log r q).outcome
   pub acts : v.acts ≡ StepAct (length m.log) doc point op given ∷ w.acts

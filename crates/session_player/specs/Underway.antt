@@ -4,17 +4,18 @@ use Rattle.tree_log.specs.declared.entry.Entry.{Entry}
 use Rattle.tree_log.specs.Log.{prefix}
 use Rattle.tree_log.specs.Tree.{tree_of}
 use Rattle.tree_log.specs.Urls.{url_of}
-use Rattle.single_agent.specs.declared.session.Session.{Session}
-use Rattle.single_agent.specs.declared.act.Act.{Act}
-use Rattle.single_agent.specs.declared.act.Running.{Running}
-use Rattle.single_agent.specs.declared.act.Ending.{Ending}
+use Rattle.agent_terms.specs.declared.session.Session.{Session}
+use Rattle.agent_terms.specs.declared.act.Act.{Act}
+use Rattle.agent_terms.specs.declared.act.Running.{Running}
+use Rattle.agent_terms.specs.declared.act.Ending.{Ending}
 use Rattle.tree_log.specs.Admits.{AreAdmitted}
-use Rattle.single_agent.specs.Registers.{unset}
-use Rattle.single_agent.specs.StepAnswer.{first_stores}
-use Rattle.single_agent.specs.NextAct.{newest_length, has_stopped, running, step_left, registers, stores}
-use Rattle.script_steps.specs.Kept.{kept}
-use Rattle.script_steps.specs.Stored.{stored}
-use Rattle.single_agent.specs.Turns.{Turned, log_of, record_of, told_of, next_renderer, has_act, most_acts, StopsAtActs, StopsAtLog, EndsBy, ArePlayed}
+use Rattle.object_access.specs.Registers.{unset}
+use Rattle.object_access.specs.StepAnswer.{first_stores}
+use Rattle.single_agent.specs.Lengths.{newest_length, has_stopped}
+use Rattle.single_agent.specs.Running.{running, step_left}
+use Rattle.single_agent.specs.Sights.{registers, stores}
+use Rattle.single_agent.specs.Turns.{Turned, log_of, record_of, told_length, next_renderer, has_act, StopsAtActs, StopsAtLog, EndsBy, ArePlayed}
+use Rattle.agent_terms.specs.Limits.{most_acts, most_entries}
 use Rattle.tree_view.specs.declared.view.View.{Ghosts}
 use Rattle.session_player.specs.declared.worker.Worker.{Worker}
 use Rattle.session_player.specs.declared.worker.Turn.{Turn}
@@ -23,6 +24,7 @@ use Rattle.session_player.specs.declared.playing.Round.{Round}
 use Rattle.session_player.specs.declared.playing.Round.TheVariants as round
 use Rattle.session_player.specs.Serves.{Ledger}
 use Rattle.session_player.specs.Steps.{Holds, holds, IsOwnRun, IsSound}
+use Rattle.session_player.specs.Held.{held}
 
 -- what the worker runs fits the acts: either no step is left, or it runs what the acts say and has heard just to the
 -- newest of them
@@ -50,7 +52,7 @@ pub record Seat : Type 0 where
   pub holds : Holds
 
 abbrev pub seat_of : {V : Type 0} (view : Ghosts V) → Worker V view → Seat
-seat_of view w = record { renderer = w.renderer; holds = holds w.acts.items w.heard (view.tree w.view) (view.urls w.view) w.run (kept w.registers) (stored w.stores) }
+seat_of view w = record { renderer = w.renderer; holds = held view w }
 
 abbrev pub seats_of : {V : Type 0} (view : Ghosts V) → List (Worker V view) → List Seat
 seats_of view workers = map (seat_of view) workers
@@ -71,11 +73,11 @@ pub record IsUnderway (s : Session) (turns : List Turned) (l : Ledger) (seats : 
   pub lossless : s.lose ≡ []
   pub played : ArePlayed s turns
   pub log : l.log ≡ log_of s turns
-  pub told : (r : ℕ) → get_or l.told r 0 ≡ told_of s r turns
+  pub told : (r : ℕ) → get_or l.told r 0 ≡ told_length s r turns
   pub many : length l.told ≡ s.renderers
   pub count : length seats ≡ s.renderers
-  pub seated : (r : ℕ) (x : Seat) → slice_get seats r ≡ Some x → Keeps s r (log_of s turns) (record_of r turns) (told_of s r turns) x.holds
-  pub few : length l.log ≤ 20000
+  pub seated : (r : ℕ) (x : Seat) → slice_get seats r ≡ Some x → Keeps s r (log_of s turns) (record_of r turns) (told_length s r turns) x.holds
+  pub few : length l.log ≤ most_entries
   pub admitted : AreAdmitted l.log
 
 -- how many acts may still be made

@@ -3,8 +3,8 @@ ghost use Rattle.std.specs.List.{list_any};
 ghost use Rattle.origin_core.specs.Origin.{is_same_scheme};
 ghost use Rattle.tree_log.specs.Homes as spec;
 
+use agent_terms::Session;
 use origin_core::{HostText, Scheme, Site, site_of};
-use single_agent::Session;
 use std::alloc::{AllocError, Global};
 use tree_view::View;
 

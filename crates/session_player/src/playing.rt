@@ -1,7 +1,7 @@
 ghost use Rattle.std.specs.Prelude.{◌≡◌, ◌<◌, ◌≤◌, ◌^◌, ◌-◌, [], List, ℕ, length, IfOk, Some, vec_len, get_or, All};
 ghost use Rattle.session_player.specs.declared.playing.Round.{Round as RoundValue};
 ghost use Rattle.single_agent.specs.Turns.{Turned, next_renderer};
-ghost use Rattle.script_steps.specs.Built.{AreBuilt};
+ghost use Rattle.agent_terms.specs.Built.{AreBuilt};
 ghost use Rattle.single_agent.specs.Session.{starts_of};
 ghost use Rattle.session_player.specs.Serves.{ledger};
 ghost use Rattle.session_player.specs.Underway.{AreNumbered, IsUnderway, TurnEnds, AtRound, RoundEnds, OrderEnds, IsPlay, AreFresh, seats_of};
@@ -9,7 +9,7 @@ ghost use Rattle.session_player.specs.Underway.{AreNumbered, IsUnderway, TurnEnd
 use crate::desk::Desk;
 use crate::replica::Replica;
 use crate::worker::{Turn, Worker};
-use single_agent::{Ending, Session};
+use agent_terms::{Ending, Session};
 use std::alloc::{AllocError, Global};
 
 /// What a round of turns, or the turns of the order, came to.

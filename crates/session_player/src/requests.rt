@@ -1,17 +1,17 @@
 ghost use Rattle.std.specs.Prelude.{◌≡◌, ◌<◌, ◌+◌, ◌^◌, ℕ, All, IfOk, IfSome, IsTrue, Some};
 ghost use Rattle.origin_core.specs.Flags as flags_spec;
 ghost use Rattle.tree_log.specs.Tree.{nav_of, origin_of, children_of};
-ghost use Rattle.script_steps.specs.Built.{is_made};
-ghost use Rattle.single_agent.specs.Decision as spec;
-ghost use Rattle.single_agent.specs.Decision.{rules_of};
-ghost use Rattle.single_agent.specs.Navigation.{is_in};
+ghost use Rattle.agent_terms.specs.Built.{is_made};
+ghost use Rattle.coordinator_rules.specs.Decision as spec;
+ghost use Rattle.coordinator_rules.specs.Decision.{rules_of};
+ghost use Rattle.coordinator_rules.specs.Navigation.{is_in};
 ghost use Rattle.single_agent.specs.Session as session_spec;
 ghost use Rattle.session_player.specs.Serves.{Decides};
 
 use crate::homes::home_for;
+use agent_terms::{Request, Session};
 use origin_core::{Flags, Origin, PageUrl, frame_origin, loaded_origin, site_of};
 use plain_data::Text;
-use single_agent::{Request, Session};
 use std::alloc::{AllocError, Global};
 use tree_log::{Entry, Load, What};
 use tree_view::View;
@@ -97,7 +97,7 @@ fn framed<V: View>(
     requires there { All (λ d. d < (V.tree view.now).docs) loads.now }
     requires asker { asker < (V.tree view.now).docs }
     requires few { (V.tree view.now).docs < 2 ^ 31 }
-    ensures { IfOk result (λ what. what ≡ spec.framed (rules_of session.now) (V.tree view.now) asker name flags url) }
+    ensures { IfOk result (λ what. what ≡ spec.frame_entry (rules_of session.now) (V.tree view.now) asker name flags url) }
 {
     let load = frame_load(alloc, view, loads, session, asker, flags, url)?;
     let origin = frame_origin(flags.origin(), view.docs(), view.origin_of(asker))?;
@@ -132,7 +132,7 @@ fn is_child<V: View>(view: &V, doc: u32, nav: u32) -> bool
 }
 
 /// What a request comes to, for a document that is active.
-#[tactic(auto, unfolding(script_steps::specs::Built::is_made))]
+#[tactic(auto, unfolding(agent_terms::specs::Built::is_made))]
 pub fn decided<V: View>(
     alloc: Global,
     view: &V,

@@ -1,12 +1,12 @@
 ghost use Rattle.std.specs.Prelude.{◌≡◌, ◌<◌, MatchOption, None, Some, find, bytes_eq, IfSome, All};
 ghost use Rattle.std.specs.Option.{option_copied};
 ghost use Rattle.origin_core.specs.Page.{without_fragment};
-ghost use Rattle.single_agent.specs.declared.session.Page.{Page as PageValue};
+ghost use Rattle.agent_terms.specs.declared.session.Page.{Page as PageValue};
 ghost use Rattle.single_agent.specs.Session.{steps_in, steps_at, steps_of};
-ghost use Rattle.single_agent.specs.NextAct.{made_before, left_at, left_on};
+ghost use Rattle.single_agent.specs.Running.{made_before, left_at, left_on};
 
+use agent_terms::{Page, Point, Running, Session, Step};
 use origin_core::PageUrl;
-use single_agent::{Page, Point, Running, Session, Step};
 use tree_view::View;
 
 fn page_of<'a>(session: &'a Session, url: &PageUrl) -> Option<&'a Page>

@@ -1,7 +1,7 @@
 ghost use Rattle.std.specs.Prelude.{◌≡◌, ◌<◌, Some};
 ghost use Rattle.tree_log.specs.Log as spec;
 ghost use Rattle.tree_log.proofs.Admitted.{TaskStands, StandsIfAny, StandsFor, AllStand};
-ghost use Rattle.single_agent.specs.NextTask.{load_waits, load_task, is_for, delivery, ends, is_over, message_task, closing_task, task_of, first_task};
+ghost use Rattle.coordinator_rules.specs.NextTask.{load_waits, load_task, is_for, delivery, ends, is_over, message_task, closing_task, task_of, first_task};
 
 use origin_core::{Origin, same_origin};
 use tree_log::{Cause, Load, Log, Target, What};

@@ -3,20 +3,23 @@ ghost use Rattle.std.specs.Option.{option_map, option_copied};
 ghost use Rattle.tree_log.specs.declared.entry.Entry.{Entry as EntryValue};
 ghost use Rattle.tree_log.specs.Tree.{tree_of};
 ghost use Rattle.tree_log.specs.Urls.{url_of};
-ghost use Rattle.single_agent.specs.declared.act.Running.{Running};
-ghost use Rattle.single_agent.specs.Registers as register_spec;
-ghost use Rattle.single_agent.specs.Registers.{unset};
+ghost use Rattle.agent_terms.specs.declared.act.Running.{Running};
+ghost use Rattle.object_access.specs.Registers as register_spec;
+ghost use Rattle.object_access.specs.Registers.{unset};
 ghost use Rattle.single_agent.specs.NextAct as act_spec;
-ghost use Rattle.single_agent.specs.NextAct.{made_before, left_at, left_on, next_point, one_more, starts, kind_of, op_of};
-ghost use Rattle.single_agent.specs.Decision.{asker_of};
-ghost use Rattle.single_agent.specs.declared.request.ReplyOutcome.{ReplyOutcome as OutcomeOf};
+ghost use Rattle.single_agent.specs.Running.{made_before, left_at, left_on, next_point, one_more, starts};
+ghost use Rattle.single_agent.specs.NextAct.{kind_of};
+ghost use Rattle.single_agent.specs.NextMove.{op_of};
+ghost use Rattle.coordinator_rules.specs.Decision.{asker_of};
+ghost use Rattle.agent_terms.specs.Limits.{most_acts};
+ghost use Rattle.agent_terms.specs.declared.request.ReplyOutcome.{ReplyOutcome as OutcomeOf};
 ghost use Rattle.session_player.specs.Serves.{Replies};
 ghost use Rattle.session_player.specs.Growing.{grow, grow_urls, AllFollow};
-ghost use Rattle.script_steps.specs.Built.{is_built, is_made, AreBuilt};
+ghost use Rattle.agent_terms.specs.Built.{is_built, is_made, AreBuilt};
 ghost use Rattle.script_steps.specs.Kept.{kept};
 ghost use Rattle.script_steps.specs.Stored.{stored};
 ghost use Rattle.script_steps.specs.Reached.{IsValueThere};
-ghost use Rattle.single_agent.specs.StepAnswer.{first_stores};
+ghost use Rattle.object_access.specs.StepAnswer.{first_stores};
 ghost use Rattle.session_player.specs.There.{AllThere};
 ghost use Rattle.session_player.specs.ThereProps.{all_there-prop};
 
@@ -25,11 +28,11 @@ use crate::replica::Replica;
 use crate::requests::Replied;
 use crate::script::left_on;
 use crate::writes::write;
-use plain_data::{Data, Text};
-use script_steps::{Registers, Stores, local};
-use single_agent::{
+use agent_terms::{
     Act, Answer, OpName, Outcome, Performed, Point, Request, Running, Session, Step, TaskKind,
 };
+use plain_data::{Data, Text};
+use script_steps::{Registers, Stores, local};
 use std::alloc::{AllocError, Global};
 use tree_log::{Entry, What};
 use tree_view::View;
@@ -199,7 +202,8 @@ fn is_there<V: View>(view: &V, answer: &Answer) -> bool
 
 impl<V: Replica> Worker<V> {
     ghost use Rattle.session_player.specs.Serves.{Ledger, ledger};
-    ghost use Rattle.session_player.specs.Steps.{IsTied, ActsLocally, TakeEnds, AskEnds, StepsTo, holds, left_now, stores_then};
+    ghost use Rattle.session_player.specs.Steps.{IsTied, ActsLocally, TakeEnds, AskEnds, StepsTo, left_now, stores_then};
+    ghost use Rattle.session_player.specs.Held.{held};
 
     pub fn new(alloc: Global, renderer: u16) -> Self
         ensures renderer { result.renderer ≡ renderer }
@@ -245,7 +249,7 @@ impl<V: Replica> Worker<V> {
         answer: Answer,
     ) -> Result<(), AllocError>
         requires run { self.old.run ≡ Some run }
-        requires few { length self.old.acts.items < 20000 }
+        requires few { length self.old.acts.items < most_acts }
         requires named { IsValueThere (V.tree self.old.view) (register_spec.value_in answer) }
         ensures acts { OnOk result (self.new.acts.items ≡ self.old.acts.items ++ Act.Step self.old.heard run.doc run.point op answer ∷ []) }
         ensures run { OnOk result (self.new.run ≡ option_map one_more self.old.run) }
@@ -284,14 +288,14 @@ impl<V: Replica> Worker<V> {
         requires seat { self.old.renderer < vec_len desk.old.told }
         requires some { 0 < session.now.renderers }
         requires run { self.old.run ≡ Some run }
-        requires few { length self.old.acts.items < 20000 }
+        requires few { length self.old.acts.items < most_acts }
         requires made { IsTrue (is_made request) }
-        ensures asks { IfOk result (λ turn. asker_of request ≡ run.doc → IsTied self.old.renderer (holds self.old.acts.items self.old.heard (V.tree self.old.view) (V.urls self.old.view) self.old.run (kept self.old.registers) (stored self.old.stores)) (ledger desk.old.log.entries desk.old.told.items)
-            → left_now session.now (holds self.old.acts.items self.old.heard (V.tree self.old.view) (V.urls self.old.view) self.old.run (kept self.old.registers) (stored self.old.stores)) ≡ Some (left_at run step.now)
-            → stores_then (Some (left_at run step.now)) (holds self.old.acts.items self.old.heard (V.tree self.old.view) (V.urls self.old.view) self.old.run (kept self.old.registers) (stored self.old.stores)) ≡ stored self.old.stores
+        ensures asks { IfOk result (λ turn. asker_of request ≡ run.doc → IsTied self.old.renderer (held V.View self.old) (ledger desk.old.log.entries desk.old.told.items)
+            → left_now session.now (held V.View self.old) ≡ Some (left_at run step.now)
+            → stores_then (Some (left_at run step.now)) (held V.View self.old) ≡ stored self.old.stores
             → AskEnds session.now self.old.renderer run.doc run.point (op_of step.now) request
-            (holds self.old.acts.items self.old.heard (V.tree self.old.view) (V.urls self.old.view) self.old.run (kept self.old.registers) (stored self.old.stores)) (ledger desk.old.log.entries desk.old.told.items) turn
-            (holds self.new.acts.items self.new.heard (V.tree self.new.view) (V.urls self.new.view) self.new.run (kept self.new.registers) (stored self.new.stores)) (ledger desk.new.log.entries desk.new.told.items)) }
+            (held V.View self.old) (ledger desk.old.log.entries desk.old.told.items) turn
+            (held V.View self.new) (ledger desk.new.log.entries desk.new.told.items)) }
         ensures renderer { self.new.renderer ≡ self.old.renderer }
         ensures count { vec_len desk.new.told ≡ vec_len desk.old.told }
     {
@@ -316,10 +320,10 @@ impl<V: Replica> Worker<V> {
     /// Takes the next task.
     fn takes(&mut self, alloc: Global, desk: &mut Desk<V>) -> Result<Turn, AllocError>
         requires { self.old.renderer < vec_len desk.old.told }
-        ensures takes { IfOk result (λ turn. IsTied self.old.renderer (holds self.old.acts.items self.old.heard (V.tree self.old.view) (V.urls self.old.view) self.old.run (kept self.old.registers) (stored self.old.stores)) (ledger desk.old.log.entries desk.old.told.items)
+        ensures takes { IfOk result (λ turn. IsTied self.old.renderer (held V.View self.old) (ledger desk.old.log.entries desk.old.told.items)
             → TakeEnds self.old.renderer
-            (holds self.old.acts.items self.old.heard (V.tree self.old.view) (V.urls self.old.view) self.old.run (kept self.old.registers) (stored self.old.stores)) (ledger desk.old.log.entries desk.old.told.items) turn
-            (holds self.new.acts.items self.new.heard (V.tree self.new.view) (V.urls self.new.view) self.new.run (kept self.new.registers) (stored self.new.stores)) (ledger desk.new.log.entries desk.new.told.items)) }
+            (held V.View self.old) (ledger desk.old.log.entries desk.old.told.items) turn
+            (held V.View self.new) (ledger desk.new.log.entries desk.new.told.items)) }
         ensures renderer { self.new.renderer ≡ self.old.renderer }
         ensures count { vec_len desk.new.told ≡ vec_len desk.old.told }
     {
@@ -376,10 +380,10 @@ impl<V: Replica> Worker<V> {
         requires seat { self.old.renderer < vec_len desk.old.told }
         requires some { 0 < session.now.renderers }
         requires built { AreBuilt session.now }
-        ensures step { IfOk result (λ turn. IsTied self.old.renderer (holds self.old.acts.items self.old.heard (V.tree self.old.view) (V.urls self.old.view) self.old.run (kept self.old.registers) (stored self.old.stores)) (ledger desk.old.log.entries desk.old.told.items)
+        ensures step { IfOk result (λ turn. IsTied self.old.renderer (held V.View self.old) (ledger desk.old.log.entries desk.old.told.items)
             → StepsTo session.now self.old.renderer
-            (holds self.old.acts.items self.old.heard (V.tree self.old.view) (V.urls self.old.view) self.old.run (kept self.old.registers) (stored self.old.stores)) (ledger desk.old.log.entries desk.old.told.items) turn
-            (holds self.new.acts.items self.new.heard (V.tree self.new.view) (V.urls self.new.view) self.new.run (kept self.new.registers) (stored self.new.stores)) (ledger desk.new.log.entries desk.new.told.items)) }
+            (held V.View self.old) (ledger desk.old.log.entries desk.old.told.items) turn
+            (held V.View self.new) (ledger desk.new.log.entries desk.new.told.items)) }
         ensures renderer { self.new.renderer ≡ self.old.renderer }
         ensures count { vec_len desk.new.told ≡ vec_len desk.old.told }
     {

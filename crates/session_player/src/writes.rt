@@ -1,11 +1,11 @@
 ghost use Rattle.std.specs.Prelude.{◌≡◌, IfOk, OnErr, OnOk};
 ghost use Rattle.std.specs.Option.{option_copied};
-ghost use Rattle.single_agent.specs.Registers as spec;
+ghost use Rattle.object_access.specs.Registers as spec;
 ghost use Rattle.script_steps.specs.Kept.{kept};
 
+use agent_terms::{Answer, Outcome};
 use plain_data::{Data, Text};
 use script_steps::Registers;
-use single_agent::{Answer, Outcome};
 use std::alloc::AllocError;
 use window_props::Value;
 

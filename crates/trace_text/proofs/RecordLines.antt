@@ -2,7 +2,7 @@
 use Rattle.std.proofs.Common.{◌≡◌, ℕ, ◌+◌, ◌<◌, ◌≤◌, List, [], ◌∷◌, ◌++◌, length, reverse, take, get_or, codes, decimal, sym, ap, ◌∙◌, take_all}
 use Rattle.std.proofs.lemmas.List.{take_more, length-reverse, reverse-append}
 use Rattle.trace_text.specs.LogText.{◌◊◌}
-use Rattle.single_agent.specs.declared.act.Act.{Act}
+use Rattle.agent_terms.specs.declared.act.Act.{Act}
 use Rattle.trace_text.specs.RecordText.{act_line, act_lines, record_words}
 
 -- one line more

@@ -7,20 +7,20 @@ use Rattle.window_props.specs.declared.key.Key.{Key}
 use Rattle.window_props.specs.declared.descriptor.Descriptor.{Descriptor}
 use Rattle.window_props.specs.Keys.{key_text}
 use Rattle.window_props.specs.ValueText.{value_text, truth_text, descriptor_text}
-use Rattle.single_agent.specs.declared.act.Act.{Act}
-use Rattle.single_agent.specs.declared.act.Act.TheVariants.{Step, Task, LostTask}
-use Rattle.single_agent.specs.declared.act.Point.{Point}
-use Rattle.single_agent.specs.declared.act.Point.TheVariants.{Script, Handler}
-use Rattle.single_agent.specs.declared.step.OpName.{OpName}
-use Rattle.single_agent.specs.declared.step.OpName.TheVariants as op
-use Rattle.single_agent.specs.declared.act.TaskKind.{TaskKind}
-use Rattle.single_agent.specs.declared.act.TaskKind.TheVariants as kind
-use Rattle.single_agent.specs.declared.act.Answer.{Answer}
-use Rattle.single_agent.specs.declared.act.Answer.TheVariants as answer
-use Rattle.single_agent.specs.declared.outcome.Rule.{Rule}
-use Rattle.single_agent.specs.declared.outcome.Rule.TheVariants.{S1, S2, S3, S4, S5, S6, S7, S8}
-use Rattle.single_agent.specs.declared.outcome.Outcome.{Outcome}
-use Rattle.single_agent.specs.declared.outcome.Outcome.TheVariants as outcome
+use Rattle.agent_terms.specs.declared.act.Act.{Act}
+use Rattle.agent_terms.specs.declared.act.Act.TheVariants.{Step, Task, LostTask}
+use Rattle.agent_terms.specs.declared.act.Point.{Point}
+use Rattle.agent_terms.specs.declared.act.Point.TheVariants.{Script, Handler}
+use Rattle.agent_terms.specs.declared.step.OpName.{OpName}
+use Rattle.agent_terms.specs.declared.step.OpName.TheVariants as op
+use Rattle.agent_terms.specs.declared.act.TaskKind.{TaskKind}
+use Rattle.agent_terms.specs.declared.act.TaskKind.TheVariants as kind
+use Rattle.agent_terms.specs.declared.act.Answer.{Answer}
+use Rattle.agent_terms.specs.declared.act.Answer.TheVariants as answer
+use Rattle.agent_terms.specs.declared.outcome.Rule.{Rule}
+use Rattle.agent_terms.specs.declared.outcome.Rule.TheVariants.{S1, S2, S3, S4, S5, S6, S7, S8}
+use Rattle.agent_terms.specs.declared.outcome.Outcome.{Outcome}
+use Rattle.agent_terms.specs.declared.outcome.Outcome.TheVariants as outcome
 
 abbrev pub point_words : Point → List ℕ
 point_words (Script made) = codes "s" ◊ decimal made

@@ -3,8 +3,8 @@ ghost use Rattle.plain_data.specs.Commas.{comma_after};
 ghost use Rattle.trace_text.specs.RecordText.{rule_words, keys_words, own_words, outcome_words, answer_words};
 ghost use Rattle.window_props.specs.ValueText as spec;
 
+use agent_terms::{Answer, Outcome, Rule};
 use plain_data::{Text, quote};
-use single_agent::{Answer, Outcome, Rule};
 use std::alloc::{AllocError, Global};
 use window_props::{Descriptor, Key, descriptor_text, value_text};
 

@@ -7,8 +7,6 @@ mod answer_text;
 mod log_lines;
 mod record_lines;
 mod status;
-#[cfg(test)]
-mod tests;
 
 pub use log_lines::log_text;
 pub use record_lines::record_text;

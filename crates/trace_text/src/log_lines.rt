@@ -1,9 +1,6 @@
 ghost use Rattle.std.specs.Prelude.{◌≡◌, ◌++◌, Some, OnOk, IfOk, string_bytes, encode_utf8};
 ghost use Rattle.trace_text.specs.LogText.{numbered, load_words, begin_words, target_words, cause_words, open_front, open_back, frame_front, frame_back, what_words, entry_line, log_words};
 
-#[cfg(test)]
-mod tests;
-
 use origin_core::{Flags, Origin};
 use plain_data::{Text, quote, text_of};
 use std::alloc::{AllocError, Global};

@@ -2,12 +2,9 @@ ghost use Rattle.std.specs.Prelude.{◌≡◌, ◌++◌, OnOk, IfOk, string_byte
 ghost use Rattle.trace_text.specs.RecordText.{point_words, op_words, kind_words, act_line, record_words};
 ghost use Rattle.std.specs.Prelude.{Some};
 
-#[cfg(test)]
-mod tests;
-
 use crate::answer_text::answer_text;
+use agent_terms::{Act, OpName, Point, TaskKind};
 use plain_data::Text;
-use single_agent::{Act, OpName, Point, TaskKind};
 use std::alloc::{AllocError, Global};
 use std::fmt;
 

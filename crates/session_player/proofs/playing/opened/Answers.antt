@@ -1,7 +1,7 @@
 use Rattle.std.proofs.Common.{◌∙◌, sym, ap, length}
 use Rattle.tree_log.specs.declared.entry.Entry.{Entry}
 use Rattle.std.specs.Prelude.{List}
-use Rattle.single_agent.specs.Decision.{rules_of}
+use Rattle.coordinator_rules.specs.Decision.{rules_of}
 use Rattle.single_agent.specs.Session.{started}
 use Rattle.session_player.proofs.Begins.{starts_are}
 use Rattle.session_player.proofs.playing.opened.Goals as goal

@@ -1,5 +1,5 @@
 use Rattle.std.proofs.Common.{◌≡◌, ℕ, drop, get_or, length, vec_len}
-use Rattle.single_agent.specs.Decision.{rules_of}
+use Rattle.coordinator_rules.specs.Decision.{rules_of}
 use Rattle.single_agent.specs.Session.{started, starts_of}
 use Rattle.session_player.proofs.playing.opened.Given as goal
 

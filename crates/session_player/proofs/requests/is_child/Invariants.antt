@@ -1,6 +1,6 @@
 use Rattle.std.proofs.Common.{◌≡◌, drop}
 use Rattle.tree_log.specs.Tree.{children_of}
-use Rattle.single_agent.specs.Navigation.{is_in}
+use Rattle.coordinator_rules.specs.Navigation.{is_in}
 use Rattle.session_player.proofs.requests.is_child.Given as goal
 
 abbrev pub invariant-loop-index : goal.invariant-loop-index

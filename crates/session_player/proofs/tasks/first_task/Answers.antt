@@ -1,7 +1,7 @@
 use Rattle.std.proofs.Common.{sym, ap, ◌∙◌, arith, None}
 use Rattle.std.specs.Option.{option_copied}
 use Rattle.tree_log.proofs.Places.{prefix_none, entry_there}
-use Rattle.single_agent.specs.NextTask.{is_over, first_task}
+use Rattle.coordinator_rules.specs.NextTask.{is_over, first_task}
 use Rattle.session_player.proofs.FirstTask.{stands_at, first_next, found_at, none_left}
 use Rattle.session_player.proofs.tasks.first_task.Goals as goal
 

@@ -1,6 +1,6 @@
 use Rattle.std.proofs.Common.{◌≡◌, None}
 use Rattle.tree_log.specs.Log.{prefix}
-use Rattle.single_agent.specs.NextTask.{is_over, first_task}
+use Rattle.coordinator_rules.specs.NextTask.{is_over, first_task}
 use Rattle.session_player.proofs.tasks.first_task.Given as goal
 
 abbrev pub invariant-loop-place : goal.invariant-loop-place

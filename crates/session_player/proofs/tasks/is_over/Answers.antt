@@ -1,7 +1,7 @@
 use Rattle.std.proofs.Common.{sym, ap, ◌∙◌, arith}
 use Rattle.std.specs.Option.{option_copied}
 use Rattle.tree_log.proofs.Places.{prefix_none, entry_there}
-use Rattle.single_agent.specs.NextTask.{is_over}
+use Rattle.coordinator_rules.specs.NextTask.{is_over}
 use Rattle.session_player.proofs.FirstTask.{over_next, over_found, never_over}
 use Rattle.session_player.proofs.tasks.is_over.Goals as goal
 

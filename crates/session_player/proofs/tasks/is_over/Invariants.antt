@@ -1,6 +1,6 @@
 use Rattle.std.proofs.Common.{◌≡◌, false}
 use Rattle.tree_log.specs.Log.{prefix}
-use Rattle.single_agent.specs.NextTask.{is_over}
+use Rattle.coordinator_rules.specs.NextTask.{is_over}
 use Rattle.session_player.proofs.tasks.is_over.Given as goal
 
 abbrev pub invariant-loop-number : goal.invariant-loop-number

@@ -2,7 +2,7 @@ use Rattle.std.proofs.Common.{◌≡◌, ◌∙◌, ◌∷◌, ◌++◌, ℕ, �
 use Rattle.tree_log.specs.declared.entry.Entry.{Entry}
 use Rattle.tree_log.specs.Tree.{Tree, tree_of, is, is_active}
 use Rattle.tree_log.specs.Admits.{admits}
-use Rattle.single_agent.specs.Decision.{Decision, rules_of, asker_of, by, end_of, home_if_active}
+use Rattle.coordinator_rules.specs.Decision.{Decision, rules_of, asker_of, by, end_of, home_if_active}
 use Rattle.session_player.specs.Serves.{Decides, Tells, ledger}
 use Rattle.session_player.proofs.Asking.{asked_ended, asked_decided, decided_admitted, loads_there, few_docs}
 use Rattle.session_player.proofs.Quiet.{decided_quiet}

@@ -2,7 +2,7 @@ use Rattle.std.proofs.Common.{◌≡◌, ◌∙◌, ℕ, ◌<◌, ap, sym, subst
 use Rattle.tree_log.specs.declared.entry.Entry.{Entry}
 use Rattle.tree_log.specs.Tree.{Tree, tree_of}
 use Rattle.tree_log.specs.Admits.{admits}
-use Rattle.single_agent.specs.Decision.{rules_of}
+use Rattle.coordinator_rules.specs.Decision.{rules_of}
 use Rattle.single_agent.specs.Session.{start_entry}
 use Rattle.single_agent.proofs.Admitted.{start_admitted}
 use Rattle.session_player.specs.Quiet.{is_quiet}

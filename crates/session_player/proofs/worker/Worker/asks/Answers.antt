@@ -1,9 +1,11 @@
 use Rattle.std.proofs.Common.{◌∙◌, ◌++◌, ◌∷◌, [], refl, sym, ap, reverse}
 use Rattle.std.specs.Option.{option_map}
-use Rattle.single_agent.specs.declared.act.Act.TheVariants.{Step as StepAct}
-use Rattle.single_agent.specs.Decision.{rules_of, asked}
-use Rattle.single_agent.specs.Registers.{value_in, written_to, to_of}
-use Rattle.single_agent.specs.NextAct.{left_at, one_more, op_of, answer_of}
+use Rattle.agent_terms.specs.declared.act.Act.TheVariants.{Step as StepAct}
+use Rattle.coordinator_rules.specs.Decision.{rules_of, asked_decision}
+use Rattle.object_access.specs.Registers.{value_in, written_to, to_of}
+use Rattle.single_agent.specs.Running.{left_at, one_more}
+use Rattle.single_agent.specs.NextMove.{op_of}
+use Rattle.single_agent.specs.NextAct.{answer_of}
 use Rattle.script_steps.specs.Kept.{kept}
 use Rattle.script_steps.specs.Stored.{stored}
 use Rattle.script_steps.specs.Reached.{IsValueThere}
@@ -21,7 +23,7 @@ returns-in-NotYours-clause-asks g c = λ asker tied left same.
 pub returns-then-not-branch-clause-asks : goal.returns-then-not-branch-clause-asks
 returns-then-not-branch-clause-asks g c = λ asker tied left same.
     let serves = rw c.in-Answered.is at c.in_ok-ask.ensures.serves in
-    hears_all c.args.self.now.renderer _ _ (ledger c.ask.new.self.log.entries c.ask.new.self.told.items) (asked (rules_of c.args.session.now) c.args.desk.now.log.entries c.args.self.now.renderer c.args.request).entries c.in-Answered.told
+    hears_all c.args.self.now.renderer _ _ (ledger c.ask.new.self.log.entries c.ask.new.self.told.items) (asked_decision (rules_of c.args.session.now) c.args.desk.now.log.entries c.args.self.now.renderer c.args.request).entries c.in-Answered.told
     c.in_ok-hear-in-Answered.field-0 tied serves.log serves.tells c.ask.new.self.admitted (rw c.deref.ensures.value at c.in_ok-hear-in-Answered.ensures.all) c.if-not-branch.true
 
 pub returns-then-not-is_there-clause-asks : goal.returns-then-not-is_there-clause-asks
@@ -34,8 +36,8 @@ returns-then-not-is_there-clause-asks g c = λ asker tied left same.
     let l : Ledger = ledger c.args.desk.now.log.entries c.args.desk.now.told.items in
     let m : Ledger = ledger c.ask.new.self.log.entries c.ask.new.self.told.items in
     let all : HeardAll r l v m =
-    heard_all r w v l m (asked (rules_of c.args.session.now) l.log r c.args.request).entries c.in-Answered.told tied serves.log serves.tells (h.tree c.if-not-branch.false) (h.urls c.if-not-branch.false) (h.heard c.if-not-branch.false) in
-    let decided = (asked (rules_of c.args.session.now) l.log r c.args.request).outcome in
+    heard_all r w v l m (asked_decision (rules_of c.args.session.now) l.log r c.args.request).entries c.in-Answered.told tied serves.log serves.tells (h.tree c.if-not-branch.false) (h.urls c.if-not-branch.false) (h.heard c.if-not-branch.false) in
+    let decided = (asked_decision (rules_of c.args.session.now) l.log r c.args.request).outcome in
     let answer = c.answer_of-answer.ensures.value decided serves.replies ∙ ap (λ o. answer_of o decided) c.name_of-op.ensures in
     let there : IsValueThere v.tree (value_in c.answer_of-answer.result) =
     answer_there c.args.session.now r (op_of c.args.step.now) c.args.request c.in-Answered.reply c.in-Answered.told v.tree l m c.requires.made serves all.tree decided c.answer_of-answer.result refl answer in
@@ -52,7 +54,7 @@ returns-in_ok-keep-in-Answered-clause-asks g c = λ asker tied left same.
     let l : Ledger = ledger c.args.desk.now.log.entries c.args.desk.now.told.items in
     let m : Ledger = ledger c.ask.new.self.log.entries c.ask.new.self.told.items in
     let all : HeardAll r l v m =
-    heard_all r w v l m (asked (rules_of c.args.session.now) l.log r c.args.request).entries c.in-Answered.told tied serves.log serves.tells (c.keep.ensures.tree ∙ h.tree c.if-not-branch.false) (c.keep.ensures.urls ∙ h.urls c.if-not-branch.false) (c.keep.ensures.heard ∙ h.heard c.if-not-branch.false) in
+    heard_all r w v l m (asked_decision (rules_of c.args.session.now) l.log r c.args.request).entries c.in-Answered.told tied serves.log serves.tells (c.keep.ensures.tree ∙ h.tree c.if-not-branch.false) (c.keep.ensures.urls ∙ h.urls c.if-not-branch.false) (c.keep.ensures.heard ∙ h.heard c.if-not-branch.false) in
     let given = c.answer_of-answer.result in
     asked_acted c.args.session.now r c.args.run.doc c.args.run.point (op_of c.args.step.now) c.args.request c.in-Answered.reply c.in-Answered.told given (left_at c.args.run c.args.step.now) c.hear.new.self.acts.items c.keep.new.self.acts.items c.hear.new.self.heard w v l m
     c.requires.made serves all (λ o is. c.answer_of-answer.ensures.value o is ∙ ap (λ n. answer_of n o) c.name_of-op.ensures)

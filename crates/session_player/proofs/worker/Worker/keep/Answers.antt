@@ -1,8 +1,8 @@
 use Rattle.std.proofs.Common.{◌≡◌, ◌∙◌, ◌+◌, ◌≤◌, ◌<◌, length, sym, ap, subst, arith}
 use Rattle.std.specs.Option.{option_copied}
-use Rattle.single_agent.specs.declared.act.Running.{Running}
-use Rattle.single_agent.specs.Registers.{value_in}
-use Rattle.single_agent.specs.NextAct.{made_before}
+use Rattle.agent_terms.specs.declared.act.Running.{Running}
+use Rattle.object_access.specs.Registers.{value_in}
+use Rattle.single_agent.specs.Running.{made_before}
 use Rattle.script_steps.specs.Kept.{kept}
 use Rattle.session_player.specs.There.{AllThere}
 use Rattle.session_player.proofs.There.{there_to}

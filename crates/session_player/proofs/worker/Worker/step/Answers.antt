@@ -1,8 +1,9 @@
 use Rattle.std.proofs.Common.{◌≡◌, ◌∙◌, sym, ap, subst, arith, Some}
 use Rattle.window_props.specs.declared.platform.Object.{Object}
 use Rattle.window_props.specs.History.{Store}
-use Rattle.single_agent.specs.NextAct.{left_at, op_of}
-use Rattle.single_agent.specs.StepAnswer.{changed}
+use Rattle.single_agent.specs.Running.{left_at}
+use Rattle.single_agent.specs.NextMove.{op_of}
+use Rattle.object_access.specs.StepAnswer.{step_stores}
 use Rattle.script_steps.specs.Kept.{kept}
 use Rattle.script_steps.specs.Stored.{stored}
 use Rattle.script_steps.proofs.BuiltLaws.{unchanged_by_asking}
@@ -46,5 +47,5 @@ returns-in-Ask-clause-step g c =
     (λ turn ends tied. asked c.args.session.now c.args.self.now.renderer w v l m few turn left c.in-Ask.request c.in-Some.ensures.left.0 performed
     (subst (λ (props : Object → Store). AskEnds c.args.session.now c.args.self.now.renderer doc c.in-Some.run'.point (op_of step) c.in-Ask.request (with props) l turn v m) same
     (ends made.asker (subst (λ (props : Object → Store). IsTied c.args.self.now.renderer (with props) l) (sym same) tied) c.in-Some.ensures.left.0
-    (ap (λ (props : Object → Store). changed (sight_in (with props)) doc step) same ∙ stays ∙ sym same))))
+    (ap (λ (props : Object → Store). step_stores (sight_in (with props)) doc step) same ∙ stays ∙ sym same))))
     c.asks.ensures.asks

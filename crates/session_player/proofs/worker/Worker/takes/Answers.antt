@@ -1,8 +1,8 @@
 use Rattle.std.proofs.Common.{◌≡◌, refl, sym, ap, ◌∙◌, reverse, [], ◌∷◌, ◌++◌, arith}
 use Rattle.std.proofs.lemmas.Grind.{common_steps}
-use Rattle.single_agent.specs.declared.act.Act.TheVariants.{Task}
-use Rattle.single_agent.specs.NextTask.{task_entry}
-use Rattle.single_agent.specs.NextAct.{starts}
+use Rattle.agent_terms.specs.declared.act.Act.TheVariants.{Task}
+use Rattle.coordinator_rules.specs.NextTask.{task_entry}
+use Rattle.single_agent.specs.Running.{starts}
 use Rattle.script_steps.specs.Kept.{kept}
 use Rattle.script_steps.specs.Stored.{stored}
 use Rattle.session_player.specs.Serves.{Ledger, ledger}
