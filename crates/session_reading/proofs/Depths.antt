@@ -3,7 +3,8 @@ use Rattle.std.proofs.Common.{◌≡◌, ℕ, suc, ◌-◌, ◌<◌, max, List, 
 use Rattle.std.proofs.lemmas.Bool.Decides.{nat_tests}
 use Rattle.plain_data.specs.declared.data.Data.{Data, the_lemmas}
 use Rattle.plain_data.specs.declared.data.Data as D
-use Rattle.session_reading.specs.DataLimits.{deepest, depth, all_nest, members_nest}
+use Rattle.plain_data.specs.DataLimits.{deepest, depth}
+use Rattle.session_reading.specs.Levels.{all_nest, members_nest}
 
 max_within : (a b n : ℕ) → nat_le (max a b) n ≡ nat_le a n && nat_le b n
 max_within a b n = grind (arith, nat_tests)

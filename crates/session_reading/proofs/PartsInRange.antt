@@ -3,7 +3,8 @@ use Rattle.std.proofs.Common.{◌≡◌, ℕ, List, [], ◌∷◌, ◌&&◌, Boo
 use Rattle.std.specs.List.{list_all}
 use Rattle.plain_data.specs.declared.data.Data.{Data, the_lemmas}
 use Rattle.plain_data.specs.declared.data.Data as D
-use Rattle.session_reading.specs.DataLimits.{is_short, parts_in_range, all_in_range, members_in_range}
+use Rattle.plain_data.specs.DataLimits.{is_short, parts_in_range}
+use Rattle.session_reading.specs.Levels.{all_in_range, members_in_range}
 
 all_of : (values : List Data) → list_all (λ b. b) (map parts_in_range values) ≡ all_in_range values
 unfolding all_in_range

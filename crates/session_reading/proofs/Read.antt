@@ -11,7 +11,8 @@ use Rattle.session_reading.specs.declared.path.Segment.TheVariants.{Named, At}
 use Rattle.session_reading.specs.declared.error.SessionError.{SessionError}
 use Rattle.session_reading.specs.Names.{text_of}
 use Rattle.session_reading.specs.Refusing.{Outcome, ◌>>=◌, under, missing, wrong_kind, out_of_range}
-use Rattle.session_reading.specs.Reading.{Json, or_refuse, natural, whole, text, max_text, each, any_list, list_of, field, field_or, optional, field_from}
+use Rattle.plain_data.specs.DataLimits.{most_text}
+use Rattle.session_reading.specs.Reading.{Json, or_refuse, natural, whole, text, each, any_list, list_of, field, field_or, optional, field_from}
 
 -- STEPS OF A READER
 
@@ -82,7 +83,7 @@ pub text_ok : (j : Json) (s : List ℕ) → text j ≡ Ok s → length s ≤ 102
 unfolding text
 text_ok j s e =
     let held = bind_ok (or_refuse (as_str j) wrong_kind) _ s e in
-    let short = then_ok (nat_le (length held.0) max_text) (Ok held.0) _ s held.2 in
+    let short = then_ok (nat_le (length held.0) most_text) (Ok held.0) _ s held.2 in
     let same : held.0 ≡ s = let kept = short.1 in cc in
     rw (← same) (grind (arith, nat_tests, short.0))
 

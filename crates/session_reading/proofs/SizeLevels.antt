@@ -2,7 +2,8 @@
 use Rattle.std.proofs.Common.{◌≡◌, ℕ, ◌+◌, min, List, [], ◌∷◌, length, map, refl, ap, ◌∙◌, rules, arith}
 use Rattle.plain_data.specs.declared.data.Data.{Data, the_lemmas}
 use Rattle.plain_data.specs.declared.data.Data as D
-use Rattle.session_reading.specs.DataLimits.{total, encoded_size, sizes, member_sizes}
+use Rattle.plain_data.specs.DataLimits.{total, encoded_size}
+use Rattle.session_reading.specs.Levels.{sizes, member_sizes}
 
 total_of : (values : List Data) → total (map encoded_size values) ≡ sizes values
 unfolding sizes

@@ -1,4 +1,4 @@
-pub mod DataLimits
+pub mod Levels
 pub mod Names
 pub mod PathText
 pub mod PlainData

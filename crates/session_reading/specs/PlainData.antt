@@ -8,7 +8,7 @@ use Rattle.plain_data.specs.declared.data.Data.{Data}
 use Rattle.plain_data.specs.declared.data.Data as D
 use Rattle.session_reading.specs.Refusing.{Outcome, ◌>>=◌, wrong_kind, out_of_range}
 use Rattle.session_reading.specs.Reading.{Json, or_refuse}
-use Rattle.session_reading.specs.DataLimits.{is_safe, within_limits}
+use Rattle.plain_data.specs.DataLimits.{is_safe, within_limits}
 
 -- a whole number that a double tells from all others
 unfoldable pub safe : Num → Outcome ℤ

@@ -5,6 +5,7 @@ use Rattle.serde_json.specs.Data as json
 use Rattle.serde_json.specs.Data.{Items, no_items, item, Members, no_members, member}
 use Rattle.serde_json.specs.Find.{get, as_number, as_integer, as_str, as_bool, as_array, as_object}
 use Rattle.serde_json.specs.Events.{items_len}
+use Rattle.plain_data.specs.DataLimits.{most_text}
 use Rattle.session_reading.specs.declared.path.Segment.TheVariants.{Named, At}
 use Rattle.session_reading.specs.declared.name.Name.{Name}
 use Rattle.session_reading.specs.Names.{text_of}
@@ -34,14 +35,11 @@ whole least most j = do
 unfoldable pub truth : Json → Outcome Bool
 truth j = or_refuse (as_bool j) wrong_kind
 
-abbrev pub max_text : ℕ
-max_text = 1024
-
 -- a text of at most 1,024 bytes
 unfoldable pub text : Json → Outcome (List ℕ)
 text j = do
   s ← or_refuse (as_str j) wrong_kind
-  if nat_le (length s) max_text then Ok s else out_of_range
+  if nat_le (length s) most_text then Ok s else out_of_range
 
 -- LISTS
 

@@ -5,7 +5,7 @@
 //! own place, and each reader above adds one [`Segment`] to its [`Path`], as in `pages[0].script[2].url`.
 //!
 //! `specs/Reading` defines what each reader gives, as a function of the tree that `serde_json` promises for a text
-//! (`Gives` of `specs/Refusing` ties the two together: only `NoMemory` is left open). `specs/DataLimits` has the
+//! (`Gives` of `specs/Refusing` ties the two together: only `NoMemory` is left open). `plain_data` has the
 //! limits of plain data, `specs/PlainData` the data that a tree is, and [`laws`] what holds of the definitions.
 #![tactic(auto)]
 

@@ -1,6 +1,7 @@
 // The limits of plain data.
 ghost use Rattle.std.specs.Prelude.{◌≡◌, ◌+◌, ℕ, min, nat_le, length};
-ghost use Rattle.session_reading.specs.DataLimits as spec;
+ghost use Rattle.plain_data.specs.DataLimits as spec;
+ghost use Rattle.session_reading.specs.Levels as levels;
 
 use plain_data::{Data, Text, keys_ascend};
 
@@ -15,7 +16,7 @@ const MAX_WHOLE: i64 = 9007199254740991;
 /// Whether the data may be sent: it nests at most 16 deep, where a value that is no list and no record has depth 1;
 /// it takes at most 4,096 bytes on the wire; its wholes are within plus or minus 9,007,199,254,740,991, its texts and
 /// keys have at most 1,024 bytes, and the keys of each record strictly ascend. It takes no memory.
-#[tactic(auto, unfolding(crate::specs::DataLimits::within_limits))]
+#[tactic(auto, unfolding(plain_data::specs::DataLimits::within_limits))]
 pub fn within_limits(value: &Data) -> bool
     ensures { result ≡ spec.within_limits value.now }
 {
@@ -41,9 +42,9 @@ fn nests_within(value: &Data, depth: usize) -> bool
 }
 
 #[cycle(nests)]
-#[tactic(auto, unfolding(crate::specs::DataLimits::all_nest))]
+#[tactic(auto, unfolding(crate::specs::Levels::all_nest))]
 fn items_nest(items: &[Data], depth: usize) -> bool
-    ensures { result ≡ spec.all_nest depth items.now }
+    ensures { result ≡ levels.all_nest depth items.now }
 {
     for item in items {
         if !nests_within(item, depth) {
@@ -54,9 +55,9 @@ fn items_nest(items: &[Data], depth: usize) -> bool
 }
 
 #[cycle(nests)]
-#[tactic(auto, unfolding(crate::specs::DataLimits::members_nest))]
+#[tactic(auto, unfolding(crate::specs::Levels::members_nest))]
 fn members_nest(members: &[(Text, Data)], depth: usize) -> bool
-    ensures { result ≡ spec.members_nest depth members.now }
+    ensures { result ≡ levels.members_nest depth members.now }
 {
     for member in members {
         if !nests_within(&member.1, depth) {
@@ -93,9 +94,9 @@ fn parts_in_range(value: &Data) -> bool
 }
 
 #[cycle(parts)]
-#[tactic(auto, unfolding(crate::specs::DataLimits::all_in_range))]
+#[tactic(auto, unfolding(crate::specs::Levels::all_in_range))]
 fn items_in_range(items: &[Data]) -> bool
-    ensures { result ≡ spec.all_in_range items.now }
+    ensures { result ≡ levels.all_in_range items.now }
 {
     for item in items {
         if !parts_in_range(item) {
@@ -106,9 +107,9 @@ fn items_in_range(items: &[Data]) -> bool
 }
 
 #[cycle(parts)]
-#[tactic(auto, unfolding(crate::specs::DataLimits::members_in_range))]
+#[tactic(auto, unfolding(crate::specs::Levels::members_in_range))]
 fn members_in_range(members: &[(Text, Data)]) -> bool
-    ensures { result ≡ spec.members_in_range members.now }
+    ensures { result ≡ levels.members_in_range members.now }
 {
     for member in members {
         if !is_short(member.0.as_str()) {
@@ -122,21 +123,21 @@ fn members_in_range(members: &[(Text, Data)]) -> bool
 }
 
 fn fits_size(value: &Data) -> bool
-    ensures { result ≡ nat_le (spec.encoded_size value.now) 4096 }
+    ensures { result ≡ nat_le (spec.encoded_size value.now) spec.most_size }
 {
     size_capped(value) <= MAX_SIZE
 }
 
 // One more than the limit stands for every size over it.
 fn cap(size: usize) -> usize
-    ensures { result ≡ min size 4097 }
+    ensures { result ≡ min size (spec.most_size + 1) }
 {
     size.min(MAX_SIZE + 1)
 }
 
 #[cycle(sizes)]
 fn size_capped(value: &Data) -> usize
-    ensures { result ≡ min (spec.encoded_size value.now) 4097 }
+    ensures { result ≡ min (spec.encoded_size value.now) (spec.most_size + 1) }
 {
     match value {
         Data::Whole(_) => 9,
@@ -148,9 +149,9 @@ fn size_capped(value: &Data) -> usize
 }
 
 #[cycle(sizes)]
-#[tactic(auto, unfolding(crate::specs::DataLimits::sizes))]
+#[tactic(auto, unfolding(crate::specs::Levels::sizes))]
 fn items_size(items: &[Data]) -> usize
-    ensures { result ≡ min (spec.sizes items.now) 4097 }
+    ensures { result ≡ min (levels.sizes items.now) (spec.most_size + 1) }
 {
     let mut size = 0;
     for item in items {
@@ -160,9 +161,9 @@ fn items_size(items: &[Data]) -> usize
 }
 
 #[cycle(sizes)]
-#[tactic(auto, unfolding(crate::specs::DataLimits::member_sizes))]
+#[tactic(auto, unfolding(crate::specs::Levels::member_sizes))]
 fn members_size(members: &[(Text, Data)]) -> usize
-    ensures { result ≡ min (spec.member_sizes members.now) 4097 }
+    ensures { result ≡ min (levels.member_sizes members.now) (spec.most_size + 1) }
 {
     let mut size = 0;
     for member in members {

@@ -1,8 +1,8 @@
 -- How many steps a session in range has.
 use Rattle.std.proofs.Common.{◌*◌, ◌≤◌, ◌<◌, ◌^◌, List, [], ◌∷◌, length, All, arith}
 use Rattle.std.proofs.lemmas.List.Elements.{All-head, All-tail}
-use Rattle.single_agent.specs.declared.session.Session.{Session}
-use Rattle.single_agent.specs.declared.session.Page.{Page}
+use Rattle.agent_terms.specs.declared.session.Session.{Session}
+use Rattle.agent_terms.specs.declared.session.Page.{Page}
 use Rattle.session_text.specs.Range.{IsPage, IsInRange}
 use Rattle.session_text.specs.Summary.{step_count}
 

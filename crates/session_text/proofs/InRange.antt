@@ -7,9 +7,9 @@ use Rattle.std.specs.Cmp.Lexicographic.{nat_list_eq_equiv}
 use Rattle.std.proofs.lemmas.List.Elements.{All-nil, All-push}
 use Rattle.std.proofs.lemmas.Map.Keys.{IsDistinct-push}
 use Rattle.origin_core.specs.Page.{read_page, IsPageText, is_web_text, fragment_of}
-use Rattle.single_agent.specs.declared.session.Session.{Session}
-use Rattle.single_agent.specs.declared.session.Page.{Page}
-use Rattle.single_agent.specs.declared.step.Step.{Step}
+use Rattle.agent_terms.specs.declared.session.Session.{Session}
+use Rattle.agent_terms.specs.declared.session.Page.{Page}
+use Rattle.agent_terms.specs.declared.step.Step.{Step}
 use Rattle.session_reading.specs.declared.name.Name.TheVariants as its
 use Rattle.session_reading.specs.Refusing.{Outcome, Gives}
 use Rattle.session_reading.specs.Reading.{Json, whole, text, any_list, list_of, field, an_object, no_others}

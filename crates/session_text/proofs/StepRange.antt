@@ -6,19 +6,19 @@ use Rattle.window_props.specs.declared.key.Key.{Key}
 use Rattle.window_props.specs.declared.key.Key.TheVariants.{Text, ToStringTag, HasInstance, IsConcatSpreadable}
 use Rattle.window_props.specs.Keys.{key_read, key_text}
 use Rattle.plain_data.specs.declared.data.Data.{Data}
-use Rattle.single_agent.specs.declared.step.OpName.{OpName}
-use Rattle.single_agent.specs.declared.step.OpName.TheVariants as op
-use Rattle.single_agent.specs.declared.step.Operand.{Operand}
-use Rattle.single_agent.specs.declared.step.Operand.TheVariants as operand
-use Rattle.single_agent.specs.declared.step.Step.{Step}
-use Rattle.single_agent.specs.declared.step.Step.TheVariants as step
-use Rattle.script_steps.specs.Built.{is_built, IsBuilt}
+use Rattle.agent_terms.specs.declared.step.OpName.{OpName}
+use Rattle.agent_terms.specs.declared.step.OpName.TheVariants as op
+use Rattle.agent_terms.specs.declared.step.Operand.{Operand}
+use Rattle.agent_terms.specs.declared.step.Operand.TheVariants as operand
+use Rattle.agent_terms.specs.declared.step.Step.{Step}
+use Rattle.agent_terms.specs.declared.step.Step.TheVariants as step
+use Rattle.agent_terms.specs.Built.{is_built, IsBuilt}
 use Rattle.session_reading.specs.declared.name.Name.{Name}
 use Rattle.session_reading.specs.declared.name.Name.TheVariants as its
 use Rattle.session_reading.specs.Refusing.{Outcome, ◌>>=◌}
 use Rattle.session_reading.specs.Reading.{Json, text, truth, list_of, field, field_or, optional, an_object, no_others}
 use Rattle.session_reading.specs.PlainData.{plain, limited, data_read}
-use Rattle.session_reading.specs.DataLimits.{within_limits}
+use Rattle.plain_data.specs.DataLimits.{within_limits}
 use Rattle.session_reading.proofs.Read.{bind_ok, then_ok, else_ok, field_ok, field_or_ok, optional_ok, whole_ok, text_ok, each_keeps, list_ok}
 use Rattle.session_text.specs.Steps.{is_register, is_kept, register, receiver, key, named_in, operand_of, operand_read, args_read, index_read, let_step, get_step, has_step, describe_step, keys_step, proto_step, set_proto_step, extensible_step, prevent_step, set_step, define_step, delete_step, call_step, sync_step, frame_step, drop_step, open_step, link_step, step_by, op_read, built_step, step_read}
 use Rattle.session_text.specs.Range.{IsRegister, IsReceiver, IsText, IsKey, IsIndex, IsOperand, AreArgs, IsStep, AreSteps}

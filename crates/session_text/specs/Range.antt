@@ -4,14 +4,14 @@ use Rattle.std.specs.List.{IsDistinct}
 use Rattle.origin_core.specs.Page.{IsPageText, is_web_text, fragment_of}
 use Rattle.window_props.specs.declared.key.Key.{Key}
 use Rattle.window_props.specs.Keys.{key_text}
-use Rattle.single_agent.specs.declared.session.Session.{Session}
-use Rattle.single_agent.specs.declared.session.Page.{Page}
-use Rattle.single_agent.specs.declared.step.Operand.{Operand}
-use Rattle.single_agent.specs.declared.step.Operand.TheVariants as operand
-use Rattle.single_agent.specs.declared.step.Step.{Step}
-use Rattle.single_agent.specs.declared.step.Step.TheVariants as step
-use Rattle.script_steps.specs.Built.{IsBuilt, AreBuilt}
-use Rattle.session_reading.specs.DataLimits.{within_limits}
+use Rattle.agent_terms.specs.declared.session.Session.{Session}
+use Rattle.agent_terms.specs.declared.session.Page.{Page}
+use Rattle.agent_terms.specs.declared.step.Operand.{Operand}
+use Rattle.agent_terms.specs.declared.step.Operand.TheVariants as operand
+use Rattle.agent_terms.specs.declared.step.Step.{Step}
+use Rattle.agent_terms.specs.declared.step.Step.TheVariants as step
+use Rattle.agent_terms.specs.Built.{IsBuilt, AreBuilt}
+use Rattle.plain_data.specs.DataLimits.{most_text, within_limits}
 use Rattle.session_text.specs.Steps.{is_register, is_kept}
 use Rattle.session_text.specs.Session.{is_suffix}
 
@@ -26,11 +26,11 @@ pub record IsReceiver (name : List ℕ) : Type 0 where
   pub free : is_kept name ≡ false
 
 abbrev pub IsText : List ℕ → Type 0
-IsText s = length s ≤ 1024
+IsText s = length s ≤ most_text
 
 -- a key is the text of at most 1,024 bytes that names it
 abbrev pub IsKey : Key → Type 0
-IsKey key = length (key_text key) ≤ 1024
+IsKey key = length (key_text key) ≤ most_text
 
 abbrev pub IsIndex : ℕ → Type 0
 IsIndex index = index ≤ 20000

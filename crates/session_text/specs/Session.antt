@@ -5,9 +5,9 @@ use Rattle.std.specs.Str.{is_utf8}
 use Rattle.serde_json.specs.Read as serde
 use Rattle.origin_core.specs.declared.page.UrlError.{UrlError}
 use Rattle.origin_core.specs.Page.{read_page, is_web_text, fragment_of}
-use Rattle.single_agent.specs.declared.session.Session.{Session}
-use Rattle.single_agent.specs.declared.session.Page.{Page}
-use Rattle.single_agent.specs.declared.step.Step.{Step}
+use Rattle.agent_terms.specs.declared.session.Session.{Session}
+use Rattle.agent_terms.specs.declared.session.Page.{Page}
+use Rattle.agent_terms.specs.declared.step.Step.{Step}
 use Rattle.session_reading.specs.declared.error.SessionError.TheVariants.{NotJson}
 use Rattle.session_reading.specs.declared.name.Name.{Name}
 use Rattle.session_reading.specs.declared.name.Name.TheVariants as its

@@ -6,13 +6,13 @@ use Rattle.serde_json.specs.Events.{members_len}
 use Rattle.serde_json.specs.Find.{as_object, as_str, get}
 use Rattle.window_props.specs.declared.key.Key.{Key}
 use Rattle.window_props.specs.Keys.{key_read}
-use Rattle.single_agent.specs.declared.step.Operand.{Operand}
-use Rattle.single_agent.specs.declared.step.Operand.TheVariants as operand
-use Rattle.single_agent.specs.declared.step.OpName.{OpName}
-use Rattle.single_agent.specs.declared.step.OpName.TheVariants as op
-use Rattle.single_agent.specs.declared.step.Step.{Step}
-use Rattle.single_agent.specs.declared.step.Step.TheVariants as step
-use Rattle.script_steps.specs.Built.{is_built}
+use Rattle.agent_terms.specs.declared.step.Operand.{Operand}
+use Rattle.agent_terms.specs.declared.step.Operand.TheVariants as operand
+use Rattle.agent_terms.specs.declared.step.OpName.{OpName}
+use Rattle.agent_terms.specs.declared.step.OpName.TheVariants as op
+use Rattle.agent_terms.specs.declared.step.Step.{Step}
+use Rattle.agent_terms.specs.declared.step.Step.TheVariants as step
+use Rattle.agent_terms.specs.Built.{is_built}
 use Rattle.session_reading.specs.declared.path.Segment.TheVariants.{Named}
 use Rattle.session_reading.specs.declared.name.Name.TheVariants as its
 use Rattle.session_reading.specs.Names.{text_of}

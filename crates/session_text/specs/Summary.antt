@@ -1,7 +1,7 @@
 -- What the line on a session says.
 use Rattle.std.specs.Prelude.{ℕ, ◌+◌, List, [], ◌∷◌, ◌++◌, length, codes, decimal}
-use Rattle.single_agent.specs.declared.session.Session.{Session}
-use Rattle.single_agent.specs.declared.session.Page.{Page}
+use Rattle.agent_terms.specs.declared.session.Session.{Session}
+use Rattle.agent_terms.specs.declared.session.Page.{Page}
 
 -- the steps of the pages, those of the handlers too
 unfoldable pub step_count : List Page → ℕ

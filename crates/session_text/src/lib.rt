@@ -14,17 +14,15 @@
 //! counts, and an object's members have no order.
 #![tactic(auto)]
 
+mod building;
 mod page;
 mod session;
 mod step;
 mod summary;
 mod value;
 
-pub use script_steps::built;
+pub use agent_terms::{Operand, Page, Session, Step};
+pub use building::built;
 pub use session::read_session;
 pub use session_reading::{Path, Segment, SessionError, path_text, refusal_text};
-pub use single_agent::{Operand, Page, Session, Step};
 pub use summary::summary_text;
-
-#[cfg(test)]
-mod tests;

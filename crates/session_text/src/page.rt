@@ -6,6 +6,7 @@ ghost use Rattle.session_reading.specs.Refusing.{Gives};
 ghost use Rattle.session_text.specs.Session as spec;
 
 use crate::step::Steps;
+use agent_terms::{Page, Step};
 use origin_core::{PageUrl, UrlError, read_url};
 use plain_data::Items;
 use serde_json::Value;
@@ -13,7 +14,6 @@ use session_reading::{
     Name, Reads, ReadsItem, SessionError, field, field_or, no_others, out_of_range, text,
     wrong_kind,
 };
-use single_agent::{Page, Step};
 use std::alloc::Global;
 
 /// The http or https URL that the value is (URL Standard, section 4.4, without a base).

@@ -8,6 +8,7 @@ ghost use Rattle.session_text.specs.Range.{IsInRange};
 ghost use Rattle.session_text.specs.Session as spec;
 
 use crate::page::{APage, tell_text, web_url};
+use agent_terms::{Page, Session};
 use origin_core::{HostText, PageUrl};
 use plain_data::Items;
 use serde_json::Value;
@@ -15,7 +16,6 @@ use session_reading::{
     Name, Reads, ReadsItem, SessionError, any_list, field, field_or, list_of, no_others,
     out_of_range, text, whole, wrong_kind,
 };
-use single_agent::{Page, Session};
 use std::alloc::Global;
 
 /// Reads the number of renderers, from 1 to 16.

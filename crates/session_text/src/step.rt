@@ -6,15 +6,15 @@ ghost use Rattle.session_reading.specs.Reading as reading;
 ghost use Rattle.session_text.specs.Session.{steps};
 ghost use Rattle.session_text.specs.Steps as spec;
 
+use crate::building::built;
 use crate::value::{AKey, AReceiver, ARegister, AText, ATruth, AnIndex, AnOperand, Args};
+use agent_terms::{OpName, Step};
 use plain_data::{Items, Text};
-use script_steps::built;
 use serde_json::Value;
 use session_reading::{
     Name, Reads, ReadsItem, SessionError, field, field_or, list_of, no_others, optional, text,
     unknown_step, wrong_kind,
 };
-use single_agent::{OpName, Step};
 use std::alloc::Global;
 
 #[tactic(auto, unfolding(crate::specs::Steps::let_step))]

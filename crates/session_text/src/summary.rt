@@ -3,7 +3,7 @@ ghost use Rattle.std.specs.Prelude.{◌≡◌, ◌<◌, ◌^◌, IfOk, string_by
 ghost use Rattle.session_text.specs.Range.{IsInRange};
 ghost use Rattle.session_text.specs.Summary as spec;
 
-use single_agent::{Page, Session};
+use agent_terms::{Page, Session};
 use std::alloc::{AllocError, Global};
 
 /// The line on a session: `session ok renderers=R start=S pages=P steps=T` and a line feed, where T counts the steps of

@@ -6,12 +6,12 @@ ghost use Rattle.session_reading.specs.Refusing.{Gives};
 ghost use Rattle.session_reading.specs.Reading as reading;
 ghost use Rattle.session_text.specs.Steps as spec;
 
+use agent_terms::Operand;
 use plain_data::{Items, Text};
 use serde_json::Value;
 use session_reading::{
     Name, Reads, ReadsItem, SessionError, list_of, out_of_range, read_data, text, truth, whole,
 };
-use single_agent::Operand;
 use std::alloc::Global;
 use window_props::Key;
 

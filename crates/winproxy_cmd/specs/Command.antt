@@ -1,11 +1,11 @@
 -- What a command answers, and what it prints.
-use Rattle.std.specs.Prelude.{◌≡◌, ◌⊎◌, ℕ, zero, suc, ◌<◌, ◌≤◌, List, [], ◌∷◌, length, Option, codes, string_bytes, IfSome, Ok, Err}
+use Rattle.std.specs.Prelude.{◌≡◌, ◌⊎◌, ℕ, zero, suc, ◌<◌, ◌≤◌, List, [], ◌∷◌, length, Option, Some, None, IsSome, bytes_eq, if◌then◌else◌, codes, string_bytes, IfSome, Ok, Err}
 use Rattle.std.specs.Io.KnownBytes.{Appends}
 use Rattle.ports.specs.Causes.{Rose}
 use Rattle.trace_text.specs.LogText.{◌◊◌, log_words}
-use Rattle.single_agent.specs.declared.session.Session.{Session}
-use Rattle.single_agent.specs.declared.act.Ending.{Ending}
-use Rattle.single_agent.specs.declared.act.Ending.TheVariants as ending
+use Rattle.agent_terms.specs.declared.session.Session.{Session}
+use Rattle.agent_terms.specs.declared.act.Ending.{Ending}
+use Rattle.agent_terms.specs.declared.act.Ending.TheVariants as ending
 use Rattle.single_agent.specs.LegalLog.{IsLegalLog}
 use Rattle.single_agent.specs.LegalRecord.{IsLegalRecord}
 use Rattle.single_agent.specs.Turns.{Turned, log_of, record_of, ArePlayed, EndsBy, StopsAtLog}
@@ -18,7 +18,8 @@ use Rattle.session_text.specs.Summary.{summary_words}
 use Rattle.trace_text.specs.declared.status.Status.{Status}
 use Rattle.trace_text.specs.declared.status.Status.TheVariants as status
 use Rattle.trace_text.specs.StatusText.{status_words}
-use Rattle.winproxy_cmd.specs.declared.forms.TheConstants.{LIMIT}
+use Rattle.winproxy_cmd.specs.declared.forms.Form.{Form}
+use Rattle.winproxy_cmd.specs.declared.forms.Form.TheVariants as form
 use Rattle.winproxy_cmd.specs.declared.forms.Input.{Input}
 use Rattle.winproxy_cmd.specs.declared.forms.Input.TheVariants as input
 
@@ -27,18 +28,28 @@ use Rattle.winproxy_cmd.specs.declared.forms.Input.TheVariants as input
 abbrev pub IsPlayWord : List (List ℕ) → Type 0
 IsPlayWord words = words ≡ codes "play" ∷ []
 
-abbrev pub IsCheckWord : List (List ℕ) → Type 0
-IsCheckWord words = words ≡ codes "check" ∷ []
+-- the form that a word names
+unfoldable pub form_named : List ℕ → Option Form
+form_named word = if bytes_eq word (codes "play") then Some form.Play else if bytes_eq word (codes "check") then Some form.Check else None
+
+-- the form that the words ask for: that of the one word that they are
+abbrev pub form_of : List (List ℕ) → Option Form
+form_of (word ∷ []) = form_named word
+form_of _ = None
+
+-- how many bytes an input has at most: 8 MiB
+abbrev pub most_bytes : ℕ
+most_bytes = 8388608
 
 -- the input is a session
 abbrev pub IsSessionText : List ℕ → Session → Type 0
-IsSessionText bytes session = (length bytes ≤ LIMIT) × (session_of bytes ≡ Ok session)
+IsSessionText bytes session = (length bytes ≤ most_bytes) × (session_of bytes ≡ Ok session)
 
 -- the input is refused, and this line says why
 abbrev pub IsRefusedWith : List ℕ → List ℕ → Type 0
 IsRefusedWith bytes text =
-    ((LIMIT < length bytes) × (text ≡ codes "refused TooLarge\n"))
-    ⊎ ((length bytes ≤ LIMIT) × (e : SessionError) × (session_of bytes ≡ Err e) × (text ≡ refusal_words e))
+    ((most_bytes < length bytes) × (text ≡ codes "refused TooLarge\n"))
+    ⊎ ((length bytes ≤ most_bytes) × (e : SessionError) × (session_of bytes ≡ Err e) × (text ≡ refusal_words e))
 
 abbrev pub IsRefused : List ℕ → Type 0
 IsRefused bytes = (text : List ℕ) × IsRefusedWith bytes text
@@ -77,12 +88,12 @@ IsRefusalOrMemory status.Session = Unit {0}
 IsRefusalOrMemory status.Memory = Unit {0}
 IsRefusalOrMemory _ = ⊥
 
--- the words that a status of a run needs: a limit is met in a play alone
-abbrev pub IsAskedBy : List (List ℕ) → Status → Type 0
-IsAskedBy words status.Done = IsPlayWord words ⊎ IsCheckWord words
-IsAskedBy words (status.LogFull n) = IsPlayWord words
-IsAskedBy words (status.ActsFull r) = IsPlayWord words
-IsAskedBy words _ = Unit {0}
+-- the form that has the status of a run: a limit is met in a play alone
+abbrev pub IsAskedBy : Option Form → Status → Type 0
+IsAskedBy asked status.Done = IsSome asked
+IsAskedBy asked (status.LogFull n) = asked ≡ Some form.Play
+IsAskedBy asked (status.ActsFull r) = asked ≡ Some form.Play
+IsAskedBy asked _ = Unit {0}
 
 -- TEXTS
 
@@ -174,9 +185,9 @@ CheckAnswers input before now status.Session text = IsRefusal input text
 CheckAnswers input before now status.Read text = Rose before now × (text ≡ status_words status.Read)
 CheckAnswers input before now _ text = ⊥
 
--- what a command answers before anything is written, and why
-abbrev pub Answers : List (List ℕ) → Option (List ℕ) → ℕ → ℕ → Status → List ℕ → Type 0
-Answers words input before now status.Usage text =
-    (IsPlayWord words → ⊥) × (IsCheckWord words → ⊥) × (text ≡ usage_words ◊ status_words status.Usage)
-Answers words input before now st text =
-    (IsPlayWord words × PlayAnswers input before now st text) ⊎ (IsCheckWord words × CheckAnswers input before now st text)
+-- what a command of that form answers before anything is written, and why; nothing is asked for but the forms
+abbrev pub CommandAnswers : Option Form → Option (List ℕ) → ℕ → ℕ → Status → List ℕ → Type 0
+CommandAnswers (Some form.Play) input before now st text = PlayAnswers input before now st text
+CommandAnswers (Some form.Check) input before now st text = CheckAnswers input before now st text
+CommandAnswers None input before now status.Usage text = text ≡ usage_words ◊ status_words status.Usage
+CommandAnswers None input before now _ text = ⊥

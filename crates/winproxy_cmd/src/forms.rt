@@ -1,10 +1,10 @@
-ghost use Rattle.std.specs.Prelude.{◌≡◌, ◌⊎◌, ◌≤◌, List, ℕ, [], ◌∷◌, length, map, IfOk, IfSome, Some, IsTrue, ◌↔◌, string_bytes};
+ghost use Rattle.std.specs.Prelude.{◌≡◌, ◌⊎◌, List, ℕ, map, IfOk, IfSome, IsSome, Some, None, string_bytes};
 ghost use Rattle.std.specs.Io.KnownBytes.{IsAtEnd, Appends, Keeps};
 ghost use Rattle.ports.specs.Causes.{Rose, TakesFront};
 ghost use Rattle.trace_text.specs.declared.status.Status.{Status as StatusValue};
-ghost use Rattle.single_agent.specs.declared.session.Session.{Session as SessionValue};
+ghost use Rattle.agent_terms.specs.declared.session.Session.{Session as SessionValue};
 ghost use Rattle.single_agent.specs.Turns.{StopsAtActs};
-ghost use Rattle.winproxy_cmd.specs.Command.{IsPlayWord, IsCheckWord, IsAskedBy, IsInput, HasSession, IsRun, IsRunOrMemory, IsDoneOrMemory, IsRefusalOrMemory, IsRefused, IsSessionText, PrintsLegalRun, PrintsSummary, PlaysTo, StopsAtLogOf, PlayAnswers, CheckAnswers, Answers, usage_words};
+ghost use Rattle.winproxy_cmd.specs.Command.{form_named, form_of, IsPlayWord, IsAskedBy, IsInput, HasSession, IsRun, IsRunOrMemory, IsDoneOrMemory, IsRefusalOrMemory, IsRefused, IsSessionText, PrintsLegalRun, PrintsSummary, PlaysTo, StopsAtLogOf, PlayAnswers, CheckAnswers, CommandAnswers, usage_words};
 
 use crate::output::{checked, refused, run_text, unread};
 use ports::{ReadAllError, Sink, Source, read_all, write_all_of};
@@ -158,13 +158,35 @@ pub fn check<S: Source, K: Sink>(alloc: Global, source: &mut S, sink: &mut K) ->
     }
 }
 
-/// Whether the words are this one alone.
-fn is_word(words: &[String], name: &str) -> bool
-    ensures { IsTrue result ↔ (map string_bytes words.now ≡ name.now ∷ []) }
+/// What a command does with the session that its input is.
+#[derive(Clone, Copy, Debug, PartialEq, Eq)]
+pub enum Form {
+    /// It plays the session.
+    Play,
+    /// It tells what the session has.
+    Check,
+}
+
+/// The form that a word names.
+#[tactic(auto, unfolding(crate::specs::Command::form_named))]
+fn form_named(word: &str) -> Option<Form>
+    ensures { result ≡ form_named word.now }
+{
+    match word {
+        "play" => Some(Form::Play),
+        "check" => Some(Form::Check),
+        _ => None,
+    }
+}
+
+/// The form of a command that the words ask for: with the one word `play` to play, with the one word `check` to check,
+/// and nothing with any others.
+pub fn form_of(words: &[String]) -> Option<Form>
+    ensures { result ≡ form_of (map string_bytes words.now) }
 {
     match words {
-        [word] => word.as_str() == name,
-        _ => false,
+        [word] => form_named(word.as_str()),
+        _ => None,
     }
 }
 
@@ -185,42 +207,36 @@ pub fn command<S: Source, K: Sink>(
     // and of the status.
     ensures headline { IsPlayWord (map string_bytes words.now) → IsRun result → PrintsLegalRun (S.left source.old) result (K.taken sink.old) (K.taken sink.new) }
     // The sink took the line on the session that the source had, and the status.
-    ensures summary { IsCheckWord (map string_bytes words.now) → result ≡ Status.Done → PrintsSummary (S.left source.old) (K.taken sink.old) (K.taken sink.new) }
+    ensures summary { form_of (map string_bytes words.now) ≡ Some Form.Check → result ≡ Status.Done → PrintsSummary (S.left source.old) (K.taken sink.old) (K.taken sink.new) }
     // A limit stops a play exactly at a turn that meets it.
     ensures log_full { (n : ℕ) → result ≡ Status.LogFull n → PlaysTo (S.left source.old) (StopsAtLogOf n) }
     ensures acts_full { (r : ℕ) → result ≡ Status.ActsFull r → PlaysTo (S.left source.old) (λ s turns. StopsAtActs s turns r) }
     ensures whole { IsRun result → IsAtEnd (S.left source.new) }
-    ensures run { IsAskedBy (map string_bytes words.now) result }
-    ensures usage { result ≡ Status.Usage → (IsPlayWord (map string_bytes words.now) → ⊥) × (IsCheckWord (map string_bytes words.now) → ⊥) }
-    ensures else_usage { (IsPlayWord (map string_bytes words.now) → ⊥) → (IsCheckWord (map string_bytes words.now) → ⊥)
-        → (result ≡ Status.Usage) ⊎ (result ≡ Status.Write) }
-    ensures unread { (IsPlayWord (map string_bytes words.now) → ⊥) → (IsCheckWord (map string_bytes words.now) → ⊥)
-        → S.left source.new ≡ S.left source.old }
-    ensures session { result ≡ Status.Session → (IsPlayWord (map string_bytes words.now) ⊎ IsCheckWord (map string_bytes words.now))
-        × IfSome (S.left source.old) IsRefused }
-    ensures read { result ≡ Status.Read → (IsPlayWord (map string_bytes words.now) ⊎ IsCheckWord (map string_bytes words.now))
-        × Rose (S.faults source.old) (S.faults source.new) }
+    ensures run { IsAskedBy (form_of (map string_bytes words.now)) result }
+    ensures usage { result ≡ Status.Usage → form_of (map string_bytes words.now) ≡ None }
+    ensures else_usage { form_of (map string_bytes words.now) ≡ None → (result ≡ Status.Usage) ⊎ (result ≡ Status.Write) }
+    ensures unread { form_of (map string_bytes words.now) ≡ None → S.left source.new ≡ S.left source.old }
+    ensures session { result ≡ Status.Session → IsSome (form_of (map string_bytes words.now)) × IfSome (S.left source.old) IsRefused }
+    ensures read { result ≡ Status.Read → IsSome (form_of (map string_bytes words.now)) × Rose (S.faults source.old) (S.faults source.new) }
     ensures write { result ≡ Status.Write → Rose (K.faults sink.old) (K.faults sink.new) }
     // All that was printed is the text of an answer, a front of one, or nothing.
     ensures text { (result ≡ Status.Write → ⊥) → (result ≡ Status.Memory → ⊥) → (text : List ℕ)
-        × Answers (map string_bytes words.now) (S.left source.old) (S.faults source.old) (S.faults source.new) result text × Appends (K.taken sink.old) (K.taken sink.new) text }
+        × CommandAnswers (form_of (map string_bytes words.now)) (S.left source.old) (S.faults source.old) (S.faults source.new) result text × Appends (K.taken sink.old) (K.taken sink.new) text }
     ensures front { result ≡ Status.Write → (status : StatusValue) × (text : List ℕ)
-        × Answers (map string_bytes words.now) (S.left source.old) (S.faults source.old) (S.faults source.new) status text × TakesFront (K.taken sink.old) (K.taken sink.new) text }
+        × CommandAnswers (form_of (map string_bytes words.now)) (S.left source.old) (S.faults source.old) (S.faults source.new) status text × TakesFront (K.taken sink.old) (K.taken sink.new) text }
     ensures nothing { result ≡ Status.Memory → Keeps (K.taken sink.old) (K.taken sink.new) }
     // Where nothing is at fault, a session is played to its end or to a limit, or its line printed, and what is none is
     // refused, unless there is no memory.
-    ensures complete { IsPlayWord (map string_bytes words.now) → (bytes : List ℕ) (session : SessionValue) → S.left source.old ≡ Some bytes → IsSessionText bytes session
+    ensures complete { form_of (map string_bytes words.now) ≡ Some Form.Play → (bytes : List ℕ) (session : SessionValue) → S.left source.old ≡ Some bytes → IsSessionText bytes session
         → (Rose (S.faults source.old) (S.faults source.new) → ⊥) → (Rose (K.faults sink.old) (K.faults sink.new) → ⊥) → IsRunOrMemory result }
-    ensures complete_check { IsCheckWord (map string_bytes words.now) → (bytes : List ℕ) (session : SessionValue) → S.left source.old ≡ Some bytes → IsSessionText bytes session
+    ensures complete_check { form_of (map string_bytes words.now) ≡ Some Form.Check → (bytes : List ℕ) (session : SessionValue) → S.left source.old ≡ Some bytes → IsSessionText bytes session
         → (Rose (S.faults source.old) (S.faults source.new) → ⊥) → (Rose (K.faults sink.old) (K.faults sink.new) → ⊥) → IsDoneOrMemory result }
-    ensures refuses { IsPlayWord (map string_bytes words.now) ⊎ IsCheckWord (map string_bytes words.now) → (bytes : List ℕ) → S.left source.old ≡ Some bytes → IsRefused bytes
+    ensures refuses { IsSome (form_of (map string_bytes words.now)) → (bytes : List ℕ) → S.left source.old ≡ Some bytes → IsRefused bytes
         → (Rose (S.faults source.old) (S.faults source.new) → ⊥) → (Rose (K.faults sink.old) (K.faults sink.new) → ⊥) → IsRefusalOrMemory result }
 {
-    if is_word(words, "play") {
-        return play(alloc, source, sink);
+    match form_of(words) {
+        Some(Form::Play) => play(alloc, source, sink),
+        Some(Form::Check) => check(alloc, source, sink),
+        None => print(sink, Status::Usage, USAGE),
     }
-    if is_word(words, "check") {
-        return check(alloc, source, sink);
-    }
-    print(sink, Status::Usage, USAGE)
 }

@@ -10,5 +10,5 @@ mod output;
 #[cfg(test)]
 mod tests;
 
-pub use forms::{LIMIT, check, command, play};
+pub use forms::{Form, LIMIT, check, command, form_of, play};
 pub use trace_text::Status;

@@ -6,9 +6,9 @@ ghost use Rattle.session_text.specs.Summary.{summary_words};
 ghost use Rattle.trace_text.specs.StatusText.{status_words};
 ghost use Rattle.winproxy_cmd.specs.Command.{IsRunOf, status_of};
 
+use agent_terms::{Ending, Session};
 use session_player::{Replica, Worker};
 use session_text::summary_text;
-use single_agent::{Ending, Session};
 use std::alloc::{AllocError, Global};
 use trace_text::{Status, log_text, record_text, status_text};
 use tree_view::PlainView;

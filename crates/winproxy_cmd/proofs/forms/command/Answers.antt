@@ -1,29 +1,34 @@
-use Rattle.std.proofs.Common.{◌≡◌, ℕ, List, refl, inl, inr, ◌++◌, map, string_bytes}
-use Rattle.std.specs.Prelude.{Option}
-use Rattle.trace_text.specs.declared.status.Status.{Status}
+use Rattle.std.proofs.Common.{◌≡◌, None, refl, inl, inr, ◌++◌, map, string_bytes}
 use Rattle.trace_text.specs.declared.status.Status.TheVariants.{Usage, Write}
 use Rattle.trace_text.specs.StatusText.{status_words}
-use Rattle.winproxy_cmd.specs.Command.{IsPlayWord, IsCheckWord, Answers, usage_words}
+use Rattle.winproxy_cmd.specs.Command.{form_of, usage_words}
+use Rattle.winproxy_cmd.proofs.Asked.{play_word, unasked}
 use Rattle.winproxy_cmd.proofs.forms.command.Goals as goal
 
-usage : (words : List (List ℕ)) (input : Option (List ℕ)) (before now : ℕ) (st : Status) → st ≡ Usage
-    → (IsPlayWord words → ⊥) → (IsCheckWord words → ⊥) → Answers words input before now st (usage_words ++ status_words Usage)
-usage words input before now st e play check = rw e (play, check, refl)
+pub returns-in-Some-Check-clause-headline : goal.returns-in-Some-Check-clause-headline
+returns-in-Some-Check-clause-headline g c = λ play _.
+    let asked = play_word (map string_bytes c.args.words.now) play in
+    let named = c.form_of.ensures in
+    let is = c.in-Some-Check.is in
+    let field = c.in-Some-Check.field-0-is in
+    absurd cc
 
-pub returns-clause-text : goal.returns-clause-text
+pub returns-in-None-clause-text : goal.returns-in-None-clause-text
 unfolding status_words
-returns-clause-text g c = λ some _.
-    let play : IsPlayWord (map string_bytes c.args.words.now) → ⊥ = λ p. let yes = c.is_word.ensures.1 p in let no = c.if-is_word.false in cc in
-    let check : IsCheckWord (map string_bytes c.args.words.now) → ⊥ = λ p. let yes = c.is_word-2.ensures.1 p in let no = c.if-is_word-2.false in cc in
+returns-in-None-clause-text g c = λ some _.
+    let named = c.form_of.ensures in
+    let is = c.in-None.is in
+    let asked : form_of (map string_bytes c.args.words.now) ≡ None = cc in
     elim c.print.ensures.either [
       | inl write ↦ absurd (some write)
-      | inr e ↦ (usage_words ++ status_words Usage, usage _ _ _ _ c.print.result e play check, c.print.ensures.text some)
+      | inr usage ↦ (usage_words ++ status_words Usage, unasked _ _ _ _ c.print.result asked usage, c.print.ensures.text some)
     ]
 
-pub returns-clause-front : goal.returns-clause-front
+pub returns-in-None-clause-front : goal.returns-in-None-clause-front
 unfolding status_words
-returns-clause-front g c = λ write.
-    let play : IsPlayWord (map string_bytes c.args.words.now) → ⊥ = λ p. let yes = c.is_word.ensures.1 p in let no = c.if-is_word.false in cc in
-    let check : IsCheckWord (map string_bytes c.args.words.now) → ⊥ = λ p. let yes = c.is_word-2.ensures.1 p in let no = c.if-is_word-2.false in cc in
+returns-in-None-clause-front g c = λ write.
+    let named = c.form_of.ensures in
+    let is = c.in-None.is in
+    let asked : form_of (map string_bytes c.args.words.now) ≡ None = cc in
     let other : Usage ≡ Write → ⊥ = λ e. cc in
-    (Usage, usage_words ++ status_words Usage, (play, check, refl), c.print.ensures.front write other)
+    (Usage, usage_words ++ status_words Usage, unasked _ _ _ _ Usage asked refl, c.print.ensures.front write other)
