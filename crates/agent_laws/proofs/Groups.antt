@@ -8,3 +8,4 @@ pub mod Changed
 pub mod Closed
 pub mod ClosedLogs
 pub mod MadeWindows
+pub mod Written

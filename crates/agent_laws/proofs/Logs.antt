@@ -6,5 +6,6 @@ pub mod Activity
 pub mod Steps
 pub mod Admitted
 pub mod Older
+pub mod Discarded
 pub mod Asked
 pub mod Fence

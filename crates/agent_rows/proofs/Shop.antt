@@ -21,13 +21,13 @@ use Rattle.single_agent.specs.Session.{starts_of}
 use Rattle.object_access.specs.Values.{text}
 use Rattle.window_props.specs.declared.value.Value.{Value}
 use Rattle.window_props.specs.declared.value.Value.TheVariants as value
-use Rattle.coordinator_rules.specs.Decision.{Decision, one, decide, exchange, asked_decision, is_fragment, rules_of}
+use Rattle.coordinator_rules.specs.Decision.{Decision, one, decide, exchange, asked_decision, is_in_fragment, rules_of}
 use Rattle.agent_rows.specs.Logs.{load}
 use Rattle.agent_rows.specs.Shop.{shop, shop_log, pay_url, ads_url, login_url, shop_test, pay_test, login_test, token, opened_shop, with_shop, framed_pay, with_pay, framed_ads, with_ads, opened_login, with_login, posted_token, with_token, with_refusal, closing_login}
 
 -- what a request of renderer r comes to
 unfoldable pub answered : List Entry → ℕ → Request → Decision
-unfolding exchange asked_decision decide is_fragment next_task choice walk_from familiar_through may_navigate may_close home_for tree_of is_active is_discarded chain children_of parent_of top_level_of ancestors group_of url_on_literals
+unfolding exchange asked_decision decide is_in_fragment next_task choice walk_from familiar_through may_navigate may_close home_for tree_of is_active is_discarded chain children_of parent_of top_level_of ancestors group_of url_on_literals
 answered log r request = exchange (rules_of shop) log r request
 
 -- a task that renderer r takes

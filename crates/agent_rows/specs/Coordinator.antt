@@ -17,12 +17,12 @@ use Rattle.agent_terms.specs.declared.request.ReplyOutcome.{ReplyOutcome}
 use Rattle.agent_terms.specs.declared.request.ReplyOutcome.TheVariants as reply
 use Rattle.coordinator_rules.specs.Navigation.{choice, walk_from, familiar_through, may_navigate}
 use Rattle.coordinator_rules.specs.NextTask.{next_task, task_entry}
-use Rattle.coordinator_rules.specs.Decision.{Decision, one, decide, exchange, asked_decision, end_of, is_fragment}
+use Rattle.coordinator_rules.specs.Decision.{Decision, one, decide, exchange, asked_decision, end_of, is_in_fragment}
 use Rattle.agent_rows.specs.Logs.{site, a_test, b_test, load, start, started, frame, framed, rules}
 
 -- what a request of renderer r comes to
 unfoldable pub answered : List Entry → ℕ → Request → Decision
-unfolding exchange asked_decision decide end_of is_fragment next_task choice walk_from familiar_through may_navigate tree_of is_active is_discarded chain children_of top_level_of ancestors group_of
+unfolding exchange asked_decision decide end_of is_in_fragment next_task choice walk_from familiar_through may_navigate tree_of is_active is_discarded chain children_of top_level_of ancestors group_of
 answered log r request = exchange rules log r request
 
 -- no entry, and this outcome

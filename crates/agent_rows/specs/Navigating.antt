@@ -111,7 +111,7 @@ opens_nothing = refl
 -- navigation or not
 unfoldable pub goes : ℕ → ℕ → List Entry → ℕ → Bool → Decision
 unfolding decide may_navigate flags_sum tree_of is_active is_discarded chain ancestors group_of
-goes r asker log doc fragment = decide rules (tree_of log) fragment r (ask.Go asker doc (codes "https://b.test/x#y") false)
+goes r asker log doc fragment = decide rules (tree_of log) (λ n url. fragment) r (ask.Go asker doc (codes "https://b.test/x#y") false)
 
 -- the sandboxed frame's document d3 asks that the window of d1 go elsewhere
 pub refuses_to_go : goes 1 3 (sandboxed some_words) 1 false ≡ one 1 3 what.Sync (reply.Security 7)

@@ -1,7 +1,7 @@
 -- What the coordinator decides on a request: the entries, newest first, and the outcome. Which requests there are is this
 -- project's own; what each does is that of the HTML Standard: 4.8.5, a frame; 7.2.2.1, open and close; 4.6.4, a link;
 -- 7.4.2, navigation; 7.2.2.4, name and opener; 9.3.3, postMessage.
-use Rattle.std.specs.Prelude.{ℕ, ◌+◌, List, [], ◌∷◌, ◌++◌, length, Option, Some, None, Bool, false, not, ◌==◌, ◌&&◌, ◌||◌, nat_lt, is_none, is_some, unwrap_or, codes, if◌then◌else◌}
+use Rattle.std.specs.Prelude.{ℕ, ◌+◌, List, [], ◌∷◌, ◌++◌, length, Option, Some, None, Bool, not, ◌==◌, ◌&&◌, ◌||◌, nat_lt, is_none, is_some, unwrap_or, codes, if◌then◌else◌}
 use Rattle.coordinator_rules.specs.Names.{Origin, Request, ReplyOutcome, Session, Entry, Load, What}
 use Rattle.origin_core.specs.Flags.{has_navigation, has_origin, has_propagates, union}
 use Rattle.origin_core.specs.Origin.{page_origin, loaded_origin, frame_origin, window_origin}
@@ -96,24 +96,24 @@ or_sync r asker (e ∷ es) = e ∷ es
 abbrev pub made_or_null : Bool → ℕ → ReplyOutcome
 made_or_null noopener n = if noopener then ReplyOutcome.Null else ReplyOutcome.Made n
 
-abbrev pub open_existing : Rules → Tree → Bool → ℕ → ℕ → Bool → Bool → ℕ → Option (List ℕ) → Decision
-open_existing rules t fragment r asker noopener user n None =
+abbrev pub open_existing : Rules → Tree → (ℕ → List ℕ → Bool) → ℕ → ℕ → Bool → Bool → ℕ → Option (List ℕ) → Decision
+open_existing rules t in_fragment r asker noopener user n None =
     record { entries = or_sync r asker (opener_entry t r asker noopener n); outcome = made_or_null noopener n }
-open_existing rules t fragment r asker noopener user n (Some url) =
+open_existing rules t in_fragment r asker noopener user n (Some url) =
     if may_navigate t (nav_of t asker) n user then
-    record { entries = opener_entry t r asker noopener n ++ by r asker (navigation rules t fragment asker n url) ∷ []; outcome = made_or_null noopener n }
+    record { entries = opener_entry t r asker noopener n ++ by r asker (navigation rules t (in_fragment n url) asker n url) ∷ []; outcome = made_or_null noopener n }
     else one r asker What.Sync (ReplyOutcome.Security 7)
 
-abbrev pub open_chosen : Rules → Tree → Bool → ℕ → ℕ → Option (List ℕ) → List ℕ → Bool → Bool → Choice → Decision
-open_chosen rules t fragment r asker url name noopener user Nothing = one r asker What.Sync ReplyOutcome.Null
-open_chosen rules t fragment r asker url name noopener user New = one r asker (new_window rules t asker name noopener url) (made_or_null noopener t.navs)
-open_chosen rules t fragment r asker url name noopener user (Existing n) = open_existing rules t fragment r asker noopener user n url
+abbrev pub open_chosen : Rules → Tree → (ℕ → List ℕ → Bool) → ℕ → ℕ → Option (List ℕ) → List ℕ → Bool → Bool → Choice → Decision
+open_chosen rules t in_fragment r asker url name noopener user Nothing = one r asker What.Sync ReplyOutcome.Null
+open_chosen rules t in_fragment r asker url name noopener user New = one r asker (new_window rules t asker name noopener url) (made_or_null noopener t.navs)
+open_chosen rules t in_fragment r asker url name noopener user (Existing n) = open_existing rules t in_fragment r asker noopener user n url
 
-abbrev pub link_chosen : Rules → Tree → Bool → ℕ → List ℕ → List ℕ → Bool → Bool → Choice → What
-link_chosen rules t fragment asker url name noopener user Nothing = What.Sync
-link_chosen rules t fragment asker url name noopener user New = new_window rules t asker name noopener (Some url)
-link_chosen rules t fragment asker url name noopener user (Existing n) =
-    if may_navigate t (nav_of t asker) n user then navigation rules t fragment asker n url else What.Sync
+abbrev pub link_chosen : Rules → Tree → (ℕ → List ℕ → Bool) → ℕ → List ℕ → List ℕ → Bool → Bool → Choice → What
+link_chosen rules t in_fragment asker url name noopener user Nothing = What.Sync
+link_chosen rules t in_fragment asker url name noopener user New = new_window rules t asker name noopener (Some url)
+link_chosen rules t in_fragment asker url name noopener user (Existing n) =
+    if may_navigate t (nav_of t asker) n user then navigation rules t (in_fragment n url) asker n url else What.Sync
 
 -- Other documents: whether one is there, in the asker's group
 abbrev pub is_near : Tree → ℕ → ℕ → Bool
@@ -130,53 +130,34 @@ if_open t r asker doc w =
     else one r asker What.Sync (ReplyOutcome.Security 8)
     else one r asker What.Sync ReplyOutcome.Done
 
--- The decision, on a request of a document that is active; whether it is a fragment navigation depends on URLs
-unfoldable pub decide : Rules → Tree → Bool → ℕ → Request → Decision
-decide rules t fragment r Request.Next = record { entries = []; outcome = ReplyOutcome.Nothing }
-decide rules t fragment r (Request.Sync asker) = one r asker What.Sync ReplyOutcome.Done
-decide rules t fragment r (Request.Frame asker name flags url) =
+-- The decision, on a request of a document that is active. It looks at URLs by `in_fragment` alone: whether the navigation of
+-- a navigable to a URL is one to a fragment
+unfoldable pub decide : Rules → Tree → (ℕ → List ℕ → Bool) → ℕ → Request → Decision
+decide rules t in_fragment r Request.Next = record { entries = []; outcome = ReplyOutcome.Nothing }
+decide rules t in_fragment r (Request.Sync asker) = one r asker What.Sync ReplyOutcome.Done
+decide rules t in_fragment r (Request.Frame asker name flags url) =
     one r asker (frame_entry rules t asker name (union flags (flags_in t (nav_of t asker))) url) (ReplyOutcome.Made t.navs)
-decide rules t fragment r (Request.Drop asker nav) = one r asker (if is_in nav (children_of t asker) then What.Drop nav else What.Sync) ReplyOutcome.Done
-decide rules t fragment r (Request.Open asker url name noopener user) =
-    open_chosen rules t fragment r asker url name noopener user (choice t (nav_of t asker) name noopener user)
-decide rules t fragment r (Request.Link asker url name noopener user) =
-    one r asker (link_chosen rules t fragment asker url name noopener user (choice t (nav_of t asker) name noopener user)) ReplyOutcome.Done
-decide rules t fragment r (Request.Go asker doc url user) =
+decide rules t in_fragment r (Request.Drop asker nav) = one r asker (if is_in nav (children_of t asker) then What.Drop nav else What.Sync) ReplyOutcome.Done
+decide rules t in_fragment r (Request.Open asker url name noopener user) =
+    open_chosen rules t in_fragment r asker url name noopener user (choice t (nav_of t asker) name noopener user)
+decide rules t in_fragment r (Request.Link asker url name noopener user) =
+    one r asker (link_chosen rules t in_fragment asker url name noopener user (choice t (nav_of t asker) name noopener user)) ReplyOutcome.Done
+decide rules t in_fragment r (Request.Go asker doc url user) =
     if is_live t asker doc then
-    if may_navigate t (nav_of t asker) (nav_of t doc) user then one r asker (navigation rules t fragment asker (nav_of t doc) url) ReplyOutcome.Done
+    if may_navigate t (nav_of t asker) (nav_of t doc) user then one r asker (navigation rules t (in_fragment (nav_of t doc) url) asker (nav_of t doc) url) ReplyOutcome.Done
     else one r asker What.Sync (ReplyOutcome.Security 7)
     else one r asker What.Sync ReplyOutcome.Done
-decide rules t fragment r (Request.Name asker doc name) = if_open t r asker doc (What.Name (nav_of t doc) name)
-decide rules t fragment r (Request.Disown asker doc) = if_open t r asker doc (What.Opener (nav_of t doc) None)
-decide rules t fragment r (Request.Close asker doc user) =
+decide rules t in_fragment r (Request.Name asker doc name) = if_open t r asker doc (What.Name (nav_of t doc) name)
+decide rules t in_fragment r (Request.Disown asker doc) = if_open t r asker doc (What.Opener (nav_of t doc) None)
+decide rules t in_fragment r (Request.Close asker doc user) =
     one r asker (if is_live t asker doc && may_close t (nav_of t asker) (nav_of t doc) user then What.Closing (nav_of t doc) else What.Sync) ReplyOutcome.Done
-decide rules t fragment r (Request.Post asker doc target body) =
+decide rules t in_fragment r (Request.Post asker doc target body) =
     one r asker (if is_near t asker doc then What.Post doc (nav_of t asker) (origin_of t asker) target body else What.Sync) ReplyOutcome.Done
 
--- Fragments (HTML Standard, 7.4.2.2: the URL equals the document's but for fragments, and its own isn't null)
-abbrev pub goes_to : Tree → ℕ → Bool → Choice → Option ℕ
-goes_to t current user (Existing n) = if may_navigate t current n user then Some n else None
-goes_to t current user _ = None
-
--- the navigable that the request navigates to a URL
-abbrev pub destination : Tree → Request → Option ℕ
-destination t (Request.Open asker (Some url) name noopener user) = goes_to t (nav_of t asker) user (choice t (nav_of t asker) name noopener user)
-destination t (Request.Link asker url name noopener user) = goes_to t (nav_of t asker) user (choice t (nav_of t asker) name noopener user)
-destination t (Request.Go asker doc url user) = if is_live t asker doc && may_navigate t (nav_of t asker) (nav_of t doc) user then Some (nav_of t doc) else None
-destination t _ = None
-
-abbrev pub url_in : Request → List ℕ
-url_in (Request.Open asker (Some url) _ _ _) = url
-url_in (Request.Link _ url _ _ _) = url
-url_in (Request.Go _ _ url _) = url
-url_in _ = []
-
-abbrev pub differs_in_fragment : List ℕ → List ℕ → Bool
-differs_in_fragment url now = is_some (fragment_of url) && is_same_but_fragment url now
-
--- whether the request is a fragment navigation
-unfoldable pub is_fragment : Tree → (ℕ → List ℕ) → Request → Bool
-is_fragment t urls request = elim (destination t request) [ None ↦ false | Some n ↦ differs_in_fragment (url_in request) (urls (t.nav n).active) ]
+-- Fragments: whether the URL equals that of the navigable's document but for fragments, and its own isn't null (HTML Standard,
+-- 7.4.2.2)
+unfoldable pub is_in_fragment : Tree → (ℕ → List ℕ) → ℕ → List ℕ → Bool
+is_in_fragment t urls n url = is_some (fragment_of url) && is_same_but_fragment url (urls (t.nav n).active)
 
 -- Exchanges: the document that asks
 abbrev pub asker_of : Request → ℕ
@@ -203,7 +184,7 @@ home_if_active t d = if (t.doc d).been_active then Some (home_of t d) else None
 -- on a request of a document of that renderer
 unfoldable pub asked_decision : Rules → List Entry → ℕ → Request → Decision
 asked_decision rules log r request =
-    if is_active (tree_of log) (asker_of request) then decide rules (tree_of log) (is_fragment (tree_of log) (url_of log) request) r request
+    if is_active (tree_of log) (asker_of request) then decide rules (tree_of log) (is_in_fragment (tree_of log) (url_of log)) r request
     else record { entries = []; outcome = ReplyOutcome.Unloaded (end_of log (asker_of request)) }
 
 abbrev pub task_decision : ℕ → ℕ → Option What → Decision

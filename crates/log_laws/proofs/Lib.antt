@@ -1,3 +1,4 @@
 pub mod Homes
 pub mod Plays
 pub mod Messages
+pub mod Records

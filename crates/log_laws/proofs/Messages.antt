@@ -5,3 +5,4 @@ pub mod FirstTasks
 pub mod MessageEnds
 pub mod MessageOrder
 pub mod MessageGroups
+pub mod PostedTo

@@ -4,3 +4,4 @@ pub mod InitialUrls
 pub mod Stopped
 pub mod Lengths
 pub mod Played
+pub mod Adds

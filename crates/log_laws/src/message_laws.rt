@@ -1,4 +1,7 @@
 //! Laws of messages, and of documents that act no more. Each function does nothing: its contract is the law.
+ghost use Rattle.agent_terms.specs.declared.step.Step.{Step};
+ghost use Rattle.log_laws.specs.Posting.{PostsToHeld};
+ghost use Rattle.object_access.specs.StepAnswer.{Sight, perform};
 ghost use Rattle.agent_laws.specs.Belonging.{Belongs, RegistersBelong};
 ghost use Rattle.log_laws.specs.Messages.{HasFired, HasLapsed, IsActorOfNone, IsAtItsOwn};
 ghost use Rattle.origin_core.specs.declared.origin.Origin.{Origin};
@@ -64,4 +67,10 @@ pub fn messages_stay_in_their_group()
     ensures earlier { (s : Session) (log : List Entry) (k q : ℕ) (e : Entry) (registers : ℕ → List ℕ → Value) → IsLegalLog s log → length log < 2 ^ 30 →
         entry_at (prefix k log) q ≡ Some e → RegistersBelong (tree_of (prefix k log)) registers →
         RegistersBelong (tree_of (prefix k log)) (task_written (prefix k log) e.what registers) }
+{}
+
+/// A step that posts a message does so for its own document, to the document that is active, on what the step goes by, in a
+/// window which a register of its document holds.
+pub fn a_message_is_for_the_document_of_its_window()
+    ensures { (s : Sight) (d : ℕ) (st : Step) → PostsToHeld s d (perform s d st) }
 {}

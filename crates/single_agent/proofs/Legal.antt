@@ -32,7 +32,7 @@ use Rattle.agent_terms.specs.declared.request.Request.TheVariants.{Next}
 use Rattle.coordinator_rules.specs.Decision.{Rules, rules_of, Decision, task_decision, exchange}
 use Rattle.single_agent.specs.LegalLog.{IsLegalLog, Exchanged, Gave_up, lost_entry}
 use Rattle.single_agent.proofs.Made.{AreBy, exchange_by, next_gives}
-use Rattle.single_agent.specs.LegalRecord.{StandsIn, LegalActs, is_loss, about, and_lost, IsLegalRecord}
+use Rattle.single_agent.specs.LegalRecord.{StandsIn, LegalActs, is_loss, is_lost_on, about, and_lost, IsLegalRecord}
 use Rattle.single_agent.proofs.Grown.{Within, newest_within}
 
 -- WHOSE ENTRIES AN ACT MAKES
@@ -180,6 +180,7 @@ stands_grown s r more log older act own h =
     record {
       before = h.before;
       later = h.later;
+      not_lost = ap (is_lost_on r) same ∙ h.not_lost;
       made = subst (λ (l : List Entry). IsActOn s r l older act own ⊎ IsLostOn s r l older act own) (sym same) h.made;
       within = omega (arith, h.within);
       follow = prefix_more more log (h.before + length own) h.within ∙ h.follow ∙ ap (λ (l : List Entry). own ++ l) (sym same);
@@ -196,14 +197,15 @@ acts_within s r log [] mine h = tt
 acts_within s r log (a ∷ older) mine h = (h.2.no_longer, acts_within s r log older h.1 h.3)
 
 -- an act at the end of the log stands in the log with its entries
-stands_new : (s : Session) (r : ℕ) (log : List Entry) (older : List Act) (act : Act) (own : List Entry) → newest_length older ≤ length log → IsActOn s r log older act own ⊎ IsLostOn s r log older act own
+stands_new : (s : Session) (r : ℕ) (log : List Entry) (older : List Act) (act : Act) (own : List Entry) → is_lost_on r log ≡ false → newest_length older ≤ length log → IsActOn s r log older act own ⊎ IsLostOn s r log older act own
     → newest_length older ≤ length_of act → length_of act ≤ length own + length log → StandsIn s r (own ++ log) older act own
-stands_new s r log older act own within h first last =
+stands_new s r log older act own goes within h first last =
     let whole = longer own log in
     let same : prefix (length log) (own ++ log) ≡ log = prefix_more own log (length log) (omega arith) ∙ prefix_whole log (length log) (omega arith) in
     record {
       before = length log;
       later = within;
+      not_lost = ap (is_lost_on r) same ∙ goes;
       made = subst (λ (l : List Entry). IsActOn s r l older act own ⊎ IsLostOn s r l older act own) (sym same) h;
       within = omega arith;
       follow = prefix_whole (own ++ log) (length log + length own) (omega arith) ∙ ap (λ (l : List Entry). own ++ l) (sym same);
@@ -215,6 +217,46 @@ stands_new s r log older act own within h first last =
 abbrev pub goes_on_about : (r : ℕ) (log : List Entry) (acts : List Act) (mine : List Entry) → has_stopped acts ≡ false → about r log ≡ and_lost r acts mine → about r log ≡ mine
 goes_on_about r log acts mine goes is = is ∙ ap (λ (b : Bool). if b then lost_entry r ∷ mine else mine) goes
 
+-- WHO ISN'T LOST
+
+rest_by : (r : ℕ) (e : Entry) (rest : List Entry) (b : Bool) → AreBy r (if b then e ∷ rest else rest) → AreBy r rest
+rest_by r e rest true h = h.1
+rest_by r e rest false h = h
+
+never_loss : (r : ℕ) (e : Entry) → e.by ≡ Some r → is_loss r e ≡ false
+never_loss r e by = rw by refl
+
+head_stays : (r : ℕ) (e : Entry) (rest : List Entry) (mine loss : Bool) → is_loss r e ≡ loss → AreBy r (if mine || loss then e ∷ rest else rest) → loss ≡ false
+head_stays r e rest mine false is h = refl
+head_stays r e rest true true is h = sym is ∙ never_loss r e h.0
+head_stays r e rest false true is h = sym is ∙ never_loss r e h.0
+
+-- where all entries about it are its own, it wasn't lost
+no_loss : (r : ℕ) (log : List Entry) → AreBy r (about r log) → is_lost_on r log ≡ false
+unfolding about is_lost_on
+no_loss r [] h = refl
+no_loss r (e ∷ log) h =
+    let head : is_loss r e ≡ false = head_stays r e (about r log) (is_by r e) (is_loss r e) refl h in
+    rw head (no_loss r log (rest_by r e (about r log) (is_by r e || is_loss r e) h))
+
+both_by : (r : ℕ) (xs ys : List Entry) → AreBy r xs → AreBy r ys → AreBy r (xs ++ ys)
+both_by r [] ys h k = k
+both_by r (x ∷ xs) ys h k = (h.0, both_by r xs ys h.1 k)
+
+made_by : (s : Session) (r : ℕ) (log : List Entry) (older : List Act) (act : Act) (own : List Entry) → IsActOn s r log older act own ⊎ IsLostOn s r log older act own → AreBy r own
+made_by s r log older act own (inl h) = own_is (rules_of s) r log older (next_move s log older) act own h
+made_by s r log older act own (inr h) = lost_is (rules_of s) log r (move_request (next_move s log older)) own h.served
+
+-- the entries of its acts are its own
+acts_by : (s : Session) (r : ℕ) (log : List Entry) (acts : List Act) (mine : List Entry) → LegalActs s r log acts mine → AreBy r mine
+acts_by s r log [] mine h = subst (AreBy r) (sym h) tt
+acts_by s r log (a ∷ older) mine h =
+    subst (AreBy r) (sym h.4) (both_by r h.0 h.1 (made_by s r (prefix h.2.before log) older a h.0 h.2.made) (acts_by s r log older h.1 h.3))
+
+not_lost_yet : (s : Session) (r : ℕ) (log : List Entry) (acts : List Act) → IsLegalRecord s r log acts → has_stopped acts ≡ false → is_lost_on r log ≡ false
+not_lost_yet s r log acts legal goes =
+    no_loss r log (subst (AreBy r) (sym (goes_on_about r log acts legal.0 goes legal.2)) (acts_by s r log acts legal.0 legal.1))
+
 -- one act more, whatever it is
 pub record_acted : (s : Session) (r : ℕ) (log : List Entry) (older : List Act) (act : Act) (own : List Entry) → IsLegalRecord s r log older → IsActOn s r log older act own → IsLegalRecord s r (own ++ log) (act ∷ older)
 record_acted s r log older act own legal h =
@@ -222,7 +264,7 @@ record_acted s r log older act own legal h =
     let lengths = act_length (rules_of s) r log older (next_move s log older) act own h within in
     let before = goes_on_about r log older legal.0 (acted_goes_on s r log older act own h) legal.2 in (
       own ++ legal.0,
-      (own, legal.0, stands_new s r log older act own within (inl h) lengths.0 lengths.1, acts_grown s r own log older legal.0 legal.1, refl),
+      (own, legal.0, stands_new s r log older act own (not_lost_yet s r log older legal (acted_goes_on s r log older act own h)) within (inl h) lengths.0 lengths.1, acts_grown s r own log older legal.0 legal.1, refl),
       about_append r own log ∙ ap (λ (l : List Entry). l ++ about r log) (all_about r own (own_is (rules_of s) r log older (next_move s log older) act own h))
           ∙ ap (λ (l : List Entry). own ++ l) before
           ∙ ap (λ (b : Bool). if b then lost_entry r ∷ own ++ legal.0 else own ++ legal.0) (sym (act_kept (rules_of s) r log older (next_move s log older) act own h)),
@@ -234,7 +276,7 @@ record_lost s r log older act own legal h =
     let within = newest_within (length log) older (acts_within s r log older legal.0 legal.1) in
     let lengths = lost_length (newest_length older) h.heard (next_move s log older) act h.lost h.later in
     let before = goes_on_about r log older legal.0 (lost_goes_on s r log older act own h) legal.2 in
-    let stands : StandsIn s r (own ++ log) older act own = stands_new s r log older act own within (inr h) lengths.0 (omega (arith, h.within, lengths.1)) in (
+    let stands : StandsIn s r (own ++ log) older act own = stands_new s r log older act own (not_lost_yet s r log older legal (lost_goes_on s r log older act own h)) within (inr h) lengths.0 (omega (arith, h.within, lengths.1)) in (
       own ++ legal.0,
       (
         own,

@@ -6,3 +6,6 @@ pub mod Played
 pub mod Determined
 pub mod Admitted
 pub mod Mine
+pub mod Ended
+pub mod Named
+pub mod Rested

@@ -4,7 +4,7 @@ use Rattle.std.specs.Prelude.{◌==◌, ◌||◌, if◌then◌else◌}
 use Rattle.tree_log.specs.declared.entry.Entry.{Entry}
 use Rattle.tree_log.specs.declared.entry.What.{What}
 use Rattle.tree_log.specs.declared.entry.What.TheVariants.{Opener, Sync}
-use Rattle.tree_log.specs.Tree.{Tree, tree_of, is, nav_of, origin_of, is_active, same_domain}
+use Rattle.tree_log.specs.Tree.{Tree, tree_of, is, nav_of, is_active, same_domain}
 use Rattle.tree_log.specs.Urls.{url_of}
 use Rattle.agent_terms.specs.declared.request.Request.{Request}
 use Rattle.agent_terms.specs.declared.request.Request.TheVariants as ask
@@ -12,7 +12,7 @@ use Rattle.agent_terms.specs.declared.request.ReplyOutcome.{ReplyOutcome}
 use Rattle.agent_terms.specs.declared.request.ReplyOutcome.TheVariants.{Done, Security, Unloaded, NotYours}
 use Rattle.coordinator_rules.specs.NextTask.{next_task}
 use Rattle.coordinator_rules.specs.Navigation.{may_navigate, Choice, Existing, New, Nothing, choice}
-use Rattle.coordinator_rules.specs.Decision.{Rules, Decision, by, one, navigation, opener_entry, or_sync, made_or_null, open_chosen, is_live, decide, is_fragment, asker_of, end_of, home_if_active, asked_decision, task_decision, exchange}
+use Rattle.coordinator_rules.specs.Decision.{Rules, Decision, by, one, navigation, opener_entry, or_sync, made_or_null, open_chosen, is_live, decide, is_in_fragment, asker_of, end_of, home_if_active, asked_decision, task_decision, exchange}
 
 -- each entry is renderer r's
 abbrev pub AreBy : ℕ → List Entry → Type 0
@@ -43,20 +43,20 @@ twice_by r asker true true w o p q = one_by r asker w o
 twice_by r asker true false w o p q = one_by r asker Sync p
 twice_by r asker false b w o p q = one_by r asker Sync q
 
-chosen_by : (rules : Rules) (t : Tree) (f : Bool) (r asker : ℕ) (url : Option (List ℕ)) (name : List ℕ) (noopener user : Bool) (c : Choice) → IsBy r (open_chosen rules t f r asker url name noopener user c)
+chosen_by : (rules : Rules) (t : Tree) (f : ℕ → List ℕ → Bool) (r asker : ℕ) (url : Option (List ℕ)) (name : List ℕ) (noopener user : Bool) (c : Choice) → IsBy r (open_chosen rules t f r asker url name noopener user c)
 unfolding IsBy
 chosen_by rules t f r asker url name noopener user Nothing = (refl, tt)
 chosen_by rules t f r asker url name noopener user New = (refl, tt)
 chosen_by rules t f r asker None name noopener user (Existing n) = sync_by r asker (nav_of t asker) n (noopener || n == nav_of t asker)
 chosen_by rules t f r asker (Some url) name noopener user (Existing n) =
-    if_by r (may_navigate t (nav_of t asker) n user) (record { entries = opener_entry t r asker noopener n ++ by r asker (navigation rules t f asker n url) ∷ []; outcome = made_or_null noopener n }) (one r asker Sync (Security 7))
-    (front_by r asker (nav_of t asker) n (noopener || n == nav_of t asker) (navigation rules t f asker n url)) (one_by r asker Sync (Security 7))
+    if_by r (may_navigate t (nav_of t asker) n user) (record { entries = opener_entry t r asker noopener n ++ by r asker (navigation rules t (f n url) asker n url) ∷ []; outcome = made_or_null noopener n }) (one r asker Sync (Security 7))
+    (front_by r asker (nav_of t asker) n (noopener || n == nav_of t asker) (navigation rules t (f n url) asker n url)) (one_by r asker Sync (Security 7))
 
-decide_by : (rules : Rules) (t : Tree) (f : Bool) (r : ℕ) (q : Request) → IsBy r (decide rules t f r q)
+decide_by : (rules : Rules) (t : Tree) (f : ℕ → List ℕ → Bool) (r : ℕ) (q : Request) → IsBy r (decide rules t f r q)
 unfolding decide IsBy
 decide_by rules t f r ask.Next = tt
 decide_by rules t f r (ask.Open asker url name noopener user) = chosen_by rules t f r asker url name noopener user (choice t (nav_of t asker) name noopener user)
-decide_by rules t f r (ask.Go asker doc url user) = twice_by r asker (is_live t asker doc) (may_navigate t (nav_of t asker) (nav_of t doc) user) (navigation rules t f asker (nav_of t doc) url) Done (Security 7) Done
+decide_by rules t f r (ask.Go asker doc url user) = twice_by r asker (is_live t asker doc) (may_navigate t (nav_of t asker) (nav_of t doc) user) (navigation rules t (f (nav_of t doc) url) asker (nav_of t doc) url) Done (Security 7) Done
 decide_by rules t f r (ask.Name asker doc name) = twice_by r asker (is_live t asker doc) (same_domain t asker doc) _ Done (Security 8) Done
 decide_by rules t f r (ask.Disown asker doc) = twice_by r asker (is_live t asker doc) (same_domain t asker doc) _ Done (Security 8) Done
 decide_by rules t f r q = (refl, tt)
@@ -64,8 +64,8 @@ decide_by rules t f r q = (refl, tt)
 asked_by : (rules : Rules) (log : List Entry) (r : ℕ) (q : Request) → IsBy r (asked_decision rules log r q)
 unfolding asked_decision IsBy
 asked_by rules log r q =
-    if_by r (is_active (tree_of log) (asker_of q)) (decide rules (tree_of log) (is_fragment (tree_of log) (url_of log) q) r q) (record { entries = []; outcome = Unloaded (end_of log (asker_of q)) })
-    (decide_by rules (tree_of log) (is_fragment (tree_of log) (url_of log) q) r q) tt
+    if_by r (is_active (tree_of log) (asker_of q)) (decide rules (tree_of log) (is_in_fragment (tree_of log) (url_of log)) r q) (record { entries = []; outcome = Unloaded (end_of log (asker_of q)) })
+    (decide_by rules (tree_of log) (is_in_fragment (tree_of log) (url_of log)) r q) tt
 
 yours_by : (rules : Rules) (log : List Entry) (r : ℕ) (q : Request) →
     IsBy r (if is (home_if_active (tree_of log) (asker_of q)) r then asked_decision rules log r q else record { entries = []; outcome = NotYours (asker_of q) (home_if_active (tree_of log) (asker_of q)) })

@@ -13,12 +13,12 @@ use Rattle.coordinator_rules.specs.Decision.{Rules, rules_of}
 use Rattle.single_agent.specs.Session.{starts_of, started, start_entry, lose_of}
 use Rattle.single_agent.specs.Lengths.{newest_length}
 use Rattle.single_agent.specs.NextMove.{next_move, move_request}
-use Rattle.single_agent.specs.LostAct.{lost_act, exchanged}
+use Rattle.single_agent.specs.LostAct.{lost_act, HasHeard, exchanged}
 use Rattle.single_agent.specs.LegalLog.{IsLegalLog, Started}
 use Rattle.single_agent.specs.LegalRecord.{about, IsLegalRecord}
 use Rattle.single_agent.specs.Turns.{Turned, log_of, with_act, record_of, told_length, is_exchange, is_full, calls_of, counts, is_named, is_losing, is_served, loses_next, Plays, ArePlayed}
 use Rattle.single_agent.proofs.Legal.{log_acted, log_lost, record_acted, record_lost, record_other, record_other_lost}
-use Rattle.single_agent.proofs.Heard.{IsBetween, told_between}
+use Rattle.single_agent.proofs.Heard.{IsBetween, told_between, told_heard}
 
 started_alone : (q : ℕ) (rules : Rules) (log : List Entry) (urls : List (List ℕ)) → about q log ≡ [] → about q (started rules log urls) ≡ []
 unfolding about
@@ -36,12 +36,12 @@ log_played false s r log acts told None own there legal h = subst (λ (o : List 
 log_played false s r log acts told (Some act) own there legal h = log_acted s r log acts (next_move s log acts) act own there legal h.0
 
 -- an exchange that is lost is one of a move that makes an exchange
-lost_exchanges : (s : Session) (r : ℕ) (log : List Entry) (acts : List Act) → is_losing s r log acts ≡ true → is_exchange (next_move s log acts) ≡ true
+pub lost_exchanges : (s : Session) (r : ℕ) (log : List Entry) (acts : List Act) → is_losing s r log acts ≡ true → is_exchange (next_move s log acts) ≡ true
 unfolding is_losing
 lost_exchanges s r log acts h = (both (is_named (lose_of s r) (calls_of s log acts) (counts log r (next_move s log acts))) (is_exchange (next_move s log acts)) h).1
 
 -- so the act is there
-no_lost_act : (newest told : ℕ) (m : Move) → is_exchange m ≡ true → None ≡ lost_act newest told m → ⊥
+pub no_lost_act : (newest told : ℕ) (m : Move) → is_exchange m ≡ true → None ≡ lost_act newest told m → ⊥
 no_lost_act newest told (Answers doc point op o) e h = absurd cc
 no_lost_act newest told (Asks doc point op q) e h = absurd cc
 no_lost_act newest told Takes e h = absurd cc
@@ -52,19 +52,19 @@ served_or_not : (rules : Rules) (log : List Entry) (r : ℕ) (m : Move) (b : Boo
 served_or_not rules log r m true = inr refl
 served_or_not rules log r m false = inl refl
 
-own_lost : (s : Session) (r : ℕ) (log : List Entry) (acts : List Act) (told : ℕ) (act : Option Act) (own : List Entry) → is_losing s r log acts ≡ true → IsBetween (newest_length acts) told (length log) → IsLegalRecord s r log acts
+own_lost : (s : Session) (r : ℕ) (log : List Entry) (acts : List Act) (told : ℕ) (act : Option Act) (own : List Entry) → is_losing s r log acts ≡ true → IsBetween (newest_length acts) told (length log) → HasHeard r log acts told → IsLegalRecord s r log acts
     → Plays true s r log acts told act own → IsLegalRecord s r (own ++ log) (with_act act acts)
-own_lost s r log acts told None own losing b legal h = absurd (no_lost_act (newest_length acts) told (next_move s log acts) (lost_exchanges s r log acts losing) h.0)
-own_lost s r log acts told (Some act) own losing b legal h =
+own_lost s r log acts told None own losing b hears legal h = absurd (no_lost_act (newest_length acts) told (next_move s log acts) (lost_exchanges s r log acts losing) h.0)
+own_lost s r log acts told (Some act) own losing b hears legal h =
     subst (λ (o : List Entry). IsLegalRecord s r (o ++ log) (act ∷ acts)) (sym h.1)
     (record_lost s r log acts act (if is_served (lose_of s r) && not (is_full log) then exchanged (rules_of s) log r (move_request (next_move s log acts)) else []) legal
-    (record { heard = told; later = b.low_is; within = b.high_is; lost = sym h.0; served = served_or_not (rules_of s) log r (next_move s log acts) (is_served (lose_of s r) && not (is_full log)) }))
+    (record { heard = told; later = b.low_is; within = b.high_is; hears = hears; lost = sym h.0; served = served_or_not (rules_of s) log r (next_move s log acts) (is_served (lose_of s r) && not (is_full log)) }))
 
 own_played : (lost : Bool) (s : Session) (r : ℕ) (log : List Entry) (acts : List Act) (told : ℕ) (act : Option Act) (own : List Entry) → is_losing s r log acts ≡ lost → IsBetween (newest_length acts) told (length log)
-    → IsLegalRecord s r log acts → Plays lost s r log acts told act own → IsLegalRecord s r (own ++ log) (with_act act acts)
-own_played true s r log acts told act own losing b legal h = own_lost s r log acts told act own losing b legal h
-own_played false s r log acts told None own losing b legal h = subst (λ (o : List Entry). IsLegalRecord s r (o ++ log) acts) (sym h.1) legal
-own_played false s r log acts told (Some act) own losing b legal h = record_acted s r log acts act own legal h.0
+    → HasHeard r log acts told → IsLegalRecord s r log acts → Plays lost s r log acts told act own → IsLegalRecord s r (own ++ log) (with_act act acts)
+own_played true s r log acts told act own losing b hears legal h = own_lost s r log acts told act own losing b hears legal h
+own_played false s r log acts told None own losing b hears legal h = subst (λ (o : List Entry). IsLegalRecord s r (o ++ log) acts) (sym h.1) legal
+own_played false s r log acts told (Some act) own losing b hears legal h = record_acted s r log acts act own legal h.0
 
 other_played : (lost : Bool) (s : Session) (q r : ℕ) (log : List Entry) (mine acts : List Act) (told : ℕ) (act : Option Act) (own : List Entry) → IsLegalRecord s q log mine → Plays lost s r log acts told act own → q ≢ r
     → IsLegalRecord s q (own ++ log) mine
@@ -96,7 +96,7 @@ legal_record s q [] h = no_record s q
 legal_record s q (t ∷ older) h =
     elim (eqb_tells t.renderer q) [
       | inl p ↦ subst (λ k. IsLegalRecord s k (t.own ++ log_of s older) (record_of k (t ∷ older))) p.1 (subst (IsLegalRecord s t.renderer (t.own ++ log_of s older)) (sym (record_own t older))
-          (own_played (loses_next s older t.renderer) s t.renderer (log_of s older) (record_of t.renderer older) (told_length s t.renderer older) t.act t.own refl (told_between s t.renderer older h.1) (legal_record s t.renderer older h.1) h.0.plays))
+          (own_played (loses_next s older t.renderer) s t.renderer (log_of s older) (record_of t.renderer older) (told_length s t.renderer older) t.act t.own refl (told_between s t.renderer older h.1) (told_heard s t.renderer older h.1) (legal_record s t.renderer older h.1) h.0.plays))
       | inr p ↦ subst (IsLegalRecord s q (t.own ++ log_of s older)) (sym (record_not q t older p.1))
           (other_played (loses_next s older t.renderer) s q t.renderer (log_of s older) (record_of q older) (record_of t.renderer older) (told_length s t.renderer older) t.act t.own (legal_record s q older h.1) h.0.plays (λ e. p.1 (sym e)))
     ]

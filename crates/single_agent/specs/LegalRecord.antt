@@ -1,6 +1,7 @@
 -- Legal records of a renderer against a log. The acts stand newest first. Records are this project's own: they say what
 -- scripts observed.
 use Rattle.std.specs.Prelude.{◌≡◌, ◌⊎◌, ℕ, ◌+◌, ◌≤◌, List, [], ◌∷◌, ◌++◌, length, filter, Bool, false, ◌==◌, ◌&&◌, ◌||◌, is_none, if◌then◌else◌}
+use Rattle.std.specs.List.{list_any}
 use Rattle.single_agent.specs.Names.{Session, Act, Entry, What, Lost}
 use Rattle.tree_log.specs.Log.{prefix, is_by}
 use Rattle.single_agent.specs.LegalLog.{lost_entry}
@@ -8,11 +9,24 @@ use Rattle.single_agent.specs.Lengths.{length_of, newest_length, has_stopped}
 use Rattle.single_agent.specs.NextAct.{IsActOn}
 use Rattle.single_agent.specs.LostAct.{IsLostOn}
 
--- the act is the next one on some prefix of the log that holds all that the older acts had heard, or is lost there; its
--- entries follow that prefix
+abbrev pub is_loss_of : ℕ → What → Bool
+is_loss_of r (Lost x) = x == r
+is_loss_of r _ = false
+
+-- whether an entry is the loss of renderer r
+abbrev pub is_loss : ℕ → Entry → Bool
+is_loss r e = is_none e.by && is_loss_of r e.what
+
+-- whether the log holds the loss of renderer r
+unfoldable pub is_lost_on : ℕ → List Entry → Bool
+is_lost_on r log = list_any (is_loss r) log
+
+-- the act is the next one on some prefix of the log that holds all that the older acts had heard and no loss of the renderer, or
+-- is lost there; its entries follow that prefix
 pub record StandsIn (s : Session) (r : ℕ) (log : List Entry) (older : List Act) (act : Act) (own : List Entry) : Type 0 where
   pub before : ℕ
   pub later : newest_length older ≤ before
+  pub not_lost : is_lost_on r (prefix before log) ≡ false
   pub made : IsActOn s r (prefix before log) older act own ⊎ IsLostOn s r (prefix before log) older act own
   pub within : before + length own ≤ length log
   pub follow : prefix (before + length own) log ≡ own ++ prefix before log
@@ -24,14 +38,6 @@ abbrev pub LegalActs : Session → ℕ → List Entry → List Act → List Entr
 LegalActs s r log [] mine = mine ≡ []
 LegalActs s r log (act ∷ older) mine =
     (own : List Entry) × (rest : List Entry) × StandsIn s r log older act own × LegalActs s r log older rest × (mine ≡ own ++ rest)
-
-abbrev pub is_loss_of : ℕ → What → Bool
-is_loss_of r (Lost x) = x == r
-is_loss_of r _ = false
-
--- whether an entry is the loss of renderer r
-abbrev pub is_loss : ℕ → Entry → Bool
-is_loss r e = is_none e.by && is_loss_of r e.what
 
 -- the entries that renderer r made, and those of its loss
 unfoldable pub about : ℕ → List Entry → List Entry

@@ -1,10 +1,11 @@
 -- Acts whose exchange with the coordinator fails. Renderers, and their losses, are this project's own.
-use Rattle.std.specs.Prelude.{ℕ, ◌≡◌, ◌⊎◌, ◌+◌, ◌≤◌, List, [], ◌∷◌, length, ◌==◌, ◌||◌, Option, Some, None, if◌then◌else◌}
+use Rattle.std.specs.Prelude.{ℕ, ◌≡◌, ◌⊎◌, ◌≤◌, List, [], length, Option, Some, None}
 use Rattle.single_agent.specs.Names.{Session, Act, Move, Asks, Takes, Request, Entry}
-use Rattle.agent_terms.specs.declared.step.OpName.TheVariants as op
 use Rattle.agent_terms.specs.declared.act.Act.TheVariants.{Step as StepAct, LostTask}
 use Rattle.agent_terms.specs.declared.act.Answer.TheVariants as answer
 use Rattle.coordinator_rules.specs.Decision.{Rules, rules_of, exchange}
+use Rattle.coordinator_rules.specs.NextTask.{next_task}
+use Rattle.tree_log.specs.Log.{prefix}
 use Rattle.single_agent.specs.Lengths.{newest_length}
 use Rattle.single_agent.specs.NextMove.{next_move, move_request}
 
@@ -19,10 +20,16 @@ abbrev pub exchanged : Rules → List Entry → ℕ → Option Request → List 
 exchanged rules log r None = []
 exchanged rules log r (Some q) = (exchange rules log r q).entries
 
+-- how much a renderer had heard when its exchange failed: what its newest act had, or the log at which an exchange since then had
+-- found no task
+abbrev pub HasHeard : ℕ → List Entry → List Act → ℕ → Type 0
+HasHeard r log older heard = (heard ≡ newest_length older) ⊎ (next_task (prefix heard log) r ≡ None)
+
 -- on the whole log as it stands, the exchange of the next act fails, whether or not it was served
 pub record IsLostOn (s : Session) (r : ℕ) (log : List Entry) (older : List Act) (act : Act) (own : List Entry) : Type 0 where
   pub heard : ℕ
   pub later : newest_length older ≤ heard
   pub within : heard ≤ length log
+  pub hears : HasHeard r log older heard
   pub lost : lost_act (newest_length older) heard (next_move s log older) ≡ Some act
   pub served : (own ≡ []) ⊎ (own ≡ exchanged (rules_of s) log r (move_request (next_move s log older)))

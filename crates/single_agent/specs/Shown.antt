@@ -1,6 +1,6 @@
 -- What a document sees of the log and of properties: itself, and those of its group that are same origin-domain with it (HTML
--- Standard, 7.2.1.3.1, IsPlatformObjectSameOrigin).
-use Rattle.std.specs.Prelude.{ℕ, ◌≡◌, ◌⊎◌, ◌+◌, ◌≤◌, List, [], ◌∷◌, Bool, ◌==◌, ◌||◌, if◌then◌else◌}
+-- Standard, 7.2.1.3.3, IsPlatformObjectSameOrigin).
+use Rattle.std.specs.Prelude.{ℕ, List, Bool, ◌==◌, ◌||◌, if◌then◌else◌}
 use Rattle.single_agent.specs.Names.{Object, Entry}
 use Rattle.window_props.specs.declared.platform.Object.TheVariants as object
 use Rattle.window_props.specs.History.{Store}

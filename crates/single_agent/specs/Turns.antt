@@ -67,6 +67,11 @@ abbrev pub is_named : Option Lose → ℕ → Bool → Bool
 is_named None made counted = false
 is_named (Some l) made counted = l.call == made + 1 && (counted || not l.served)
 
+-- the exchange that follows so many is the one that is to be lost
+abbrev pub LosesAt : Option Lose → ℕ → Type 0
+LosesAt None made = ⊥
+LosesAt (Some l) made = l.call ≡ made + 1
+
 -- whether renderer r's next exchange is lost, on the log and after its acts
 unfoldable pub is_losing : Session → ℕ → List Entry → List Act → Bool
 is_losing s r log acts =

@@ -3,6 +3,8 @@ use Rattle.std.proofs.Common.{◌≡◌, ℕ, ◌+◌, ◌<◌, ◌≤◌, ◌^�
 use Rattle.std.specs.Prelude.{◌&&◌, ◌==◌, nat_lt, not, unwrap_or, is_none}
 use Rattle.std.proofs.lemmas.Bool.{ne_eqb}
 use Rattle.std.proofs.lemmas.Bool.Decides.{nat_tests}
+use Rattle.std.specs.Option.{option_or}
+use Rattle.origin_core.specs.declared.origin.Origin.{Origin}
 use Rattle.tree_log.specs.declared.entry.Entry.{Entry}
 use Rattle.tree_log.specs.declared.entry.Load.{Load}
 use Rattle.tree_log.specs.declared.entry.What.{What}
@@ -25,6 +27,12 @@ no_load_bears : (d count nav : ℕ) (load : Option Load) → is_next_load count 
 no_load_bears d count nav None h le = refl
 no_load_bears d count nav (Some load) h le = at_another {A = Birth} d load.doc _ (let next = (next_number count load.doc h).0 in omega arith)
 
+-- of a new navigable's document and of that which it loads
+neither_bears : (d count nav doc : ℕ) (origin : Origin) (home : ℕ) (load : Option Load) → doc ≡ count → is_next_load (count + 1) load ≡ true → count + (1 + loads_of load) ≤ d
+    → option_or (at d doc (record { nav = nav; origin = origin; home = home; loaded = false })) (bears_load d nav load) ≡ None
+neither_bears d count nav doc origin home load doc_is last le =
+    rw (at_another {A = Birth} d doc (record { nav = nav; origin = origin; home = home; loaded = false }) (omega (arith, doc_is))) (no_load_bears d (count + 1) nav load last (omega arith))
+
 -- an entry says nothing of numbers that are not made with it
 record SaysNothing (t : Tree) (actor : Option ℕ) (w : What) : Type 0 where
   few : navs_after w t.navs ≤ 4294967295
@@ -44,7 +52,7 @@ says_nothing t by actor (Open nav doc group home origin name opener flags naviga
     let nav_is = next_number t.navs nav two.1 in
     record {
       few = omega (arith, nav_is.0, nav_is.1);
-      births = λ d le. rw (at_another {A = Birth} d doc (record { nav = nav; origin = origin; home = home; loaded = false }) (omega arith)) (no_load_bears d (t.docs + 1) nav load last.1 (omega arith));
+      births = λ d le. neither_bears d t.docs nav doc origin home load doc_is last.1 le;
       makings = λ n le. at_another {A = Making} n nav _ (omega (arith, nav_is.0));
       shown = λ n le. at_another {A = ℕ} n nav doc (omega (arith, nav_is.0));
     }
@@ -56,7 +64,7 @@ says_nothing t by actor (Frame nav doc home origin name flags load) h few =
     let nav_is = next_number t.navs nav two.1 in
     record {
       few = omega (arith, nav_is.0, nav_is.1);
-      births = λ d le. rw (at_another {A = Birth} d doc (record { nav = nav; origin = origin; home = home; loaded = false }) (omega arith)) (no_load_bears d (t.docs + 1) nav load last.1 (omega arith));
+      births = λ d le. neither_bears d t.docs nav doc origin home load doc_is last.1 le;
       makings = λ n le. at_another {A = Making} n nav _ (omega (arith, nav_is.0));
       shown = λ n le. at_another {A = ℕ} n nav doc (omega (arith, nav_is.0));
     }

@@ -64,6 +64,13 @@ says_opener n (Open nav _ _ _ _ _ opener _ _ _) = at n nav opener
 says_opener n (Opener nav to) = at n nav to
 says_opener n _ = None
 
+-- the load that an entry begins
+abbrev pub load_in : What → Option Load
+load_in (Open _ _ _ _ _ _ _ _ _ load) = load
+load_in (Frame _ _ _ _ _ _ load) = load
+load_in (Begin _ load) = Some load
+load_in _ = None
+
 abbrev pub doc_of_load : Option Load → Option ℕ
 doc_of_load None = None
 doc_of_load (Some load) = Some load.doc
@@ -122,10 +129,7 @@ with_load None before = before
 with_load (Some load) before = before ++ load.doc ∷ []
 
 abbrev pub loads_after : What → List ℕ → List ℕ
-loads_after (Open _ _ _ _ _ _ _ _ _ load) before = with_load load before
-loads_after (Frame _ _ _ _ _ _ load) before = with_load load before
-loads_after (Begin _ load) before = with_load (Some load) before
-loads_after _ before = before
+loads_after what before = with_load (load_in what) before
 
 -- the top-levels, oldest first
 abbrev pub tops_after : What → List ℕ → List ℕ

@@ -5,6 +5,7 @@ pub mod Facts
 pub mod Tree
 pub mod Urls
 pub mod NamedChildren
+pub mod Siblings
 pub mod Admits
 pub mod Homes
 pub mod Blanking

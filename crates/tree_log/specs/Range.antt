@@ -1,5 +1,7 @@
--- What the type of each origin and URL in an entry promises; this project's own. A definition's entry may hold any text there.
-use Rattle.std.specs.Prelude.{List, All, IfSome, ⊤}
+-- What is promised of each origin, URL and data in the entries of a log; this project's own. A definition's entry may hold
+-- any text there.
+use Rattle.std.specs.Prelude.{List, All, IfSome, IsTrue, ⊤}
+use Rattle.plain_data.specs.Ascending.{keys_ascend}
 use Rattle.origin_core.specs.Origin.{IsOrigin}
 use Rattle.origin_core.specs.Page.{IsPageText}
 use Rattle.tree_log.specs.Names.{Entry, Load, Target, What, Open, Frame, Begin, Fragment, Post}
@@ -12,13 +14,18 @@ abbrev pub IsTargetInRange : Target → Type 0
 IsTargetInRange (Target.Origin origin) = IsOrigin origin
 IsTargetInRange _ = ⊤
 
--- every origin and URL of what happened is in range
+-- the keys of each record in posted data ascend
+abbrev pub HasAscendingKeys : What → Type 0
+HasAscendingKeys (Post _ _ _ _ body) = IsTrue (keys_ascend body)
+HasAscendingKeys _ = ⊤
+
+-- every origin, URL and data of what happened is in range
 abbrev pub IsInRange : What → Type 0
 IsInRange (Open _ _ _ _ origin _ _ _ _ load) = IsOrigin origin × IfSome load IsLoadInRange
 IsInRange (Frame _ _ _ origin _ _ load) = IsOrigin origin × IfSome load IsLoadInRange
 IsInRange (Begin _ load) = IsLoadInRange load
 IsInRange (Fragment _ _ url) = IsPageText url
-IsInRange (Post _ _ origin target _) = IsOrigin origin × IsTargetInRange target
+IsInRange (Post _ _ origin target body) = IsOrigin origin × IsTargetInRange target × IsTrue (keys_ascend body)
 IsInRange _ = ⊤
 
 abbrev pub AreInRange : List Entry → Type 0

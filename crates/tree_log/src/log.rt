@@ -1,7 +1,7 @@
 ghost use Rattle.std.specs.Prelude.{◌≡◌, ◌∷◌, [], ◌<◌, ◌≤◌, ◌-◌, ◌^◌, length, reverse, slice_get, OnOk, OnErr, IsOk, IfSome};
 ghost use Rattle.std.specs.Option.{option_copied};
 ghost use Rattle.tree_log.specs.Log.{entry_at};
-ghost use Rattle.tree_log.specs.Range.{IsInRange, AreInRange};
+ghost use Rattle.tree_log.specs.Range.{IsInRange, AreInRange, HasAscendingKeys};
 
 use crate::entry::Entry;
 use crate::range::know_entry;
@@ -11,7 +11,7 @@ use std::marker::Model;
 /// A list of entries that only grows, of at most 4,294,967,295 entries.
 ///
 /// Contracts see it as its entries, the newest first, and the number of pushes for which room was reserved. Every
-/// origin and URL in it is in range, as its type promises.
+/// origin and URL in it is in range, as its type promises, and the keys of each record in posted data ascend.
 #[derive(Drop)]
 pub struct Log {
     entries: Vec<Entry>,
@@ -63,9 +63,11 @@ impl Log {
         Ok(())
     }
 
-    /// Appends an entry. After an `Err` the log is as before. With room it can't fail, and takes one from it.
+    /// Appends an entry, in whose data the keys of each record ascend. After an `Err` the log is as before. With room it
+    /// can't fail, and takes one from it.
     pub fn push(&mut self, entry: Entry) -> Result<(), AllocError>
-        requires { length self.old.entries < 2 ^ 32 - 1 }
+        requires few { length self.old.entries < 2 ^ 32 - 1 }
+        requires keys { HasAscendingKeys entry.what }
         ensures ok { OnOk result (self.new.entries ≡ entry ∷ self.old.entries) }
         ensures err { OnErr result (self.new.entries ≡ self.old.entries) }
         ensures room { self.new.room ≡ self.old.room - 1 }

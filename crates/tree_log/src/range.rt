@@ -1,13 +1,14 @@
-// What the types of an entry's parts promise, told to a proof about the entry. None of these does anything when it
-// runs.
+// What the types of an entry's parts promise, told to a proof about the entry: of its data no type does. None of these does
+// anything when it runs.
 ghost use Rattle.std.specs.Prelude.{IfSome};
 ghost use Rattle.origin_core.specs.Origin.{IsOrigin};
-ghost use Rattle.tree_log.specs.Range.{IsInRange, IsLoadInRange, IsTargetInRange};
+ghost use Rattle.tree_log.specs.Range.{HasAscendingKeys, IsInRange, IsLoadInRange, IsTargetInRange};
 
 use crate::entry::{Entry, Load, Target, What};
 use origin_core::Origin;
 
 pub(crate) fn know_entry(entry: &Entry)
+    requires keys { HasAscendingKeys entry.now.what }
     ensures { IsInRange entry.now.what }
 {
     match &entry.what {

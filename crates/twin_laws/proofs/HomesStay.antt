@@ -121,7 +121,7 @@ synced_stays : (log : List Entry) (r asker n : ℕ) (b : Bool) → AllStay log (
 synced_stays log r asker n true = (sync_stays _, tt)
 synced_stays log r asker n false = (opener_stays _ n _, tt)
 
-chosen_stays : (rules : Rules) (log : List Entry) (fragment : Bool) (r asker : ℕ) (url : Option (List ℕ)) (name : List ℕ) (noopener user : Bool) (c : Choice)
+chosen_stays : (rules : Rules) (log : List Entry) (fragment : ℕ → List ℕ → Bool) (r asker : ℕ) (url : Option (List ℕ)) (name : List ℕ) (noopener user : Bool) (c : Choice)
     → AllStay log (open_chosen rules (tree_of log) fragment r asker url name noopener user c).entries
 chosen_stays rules log fragment r asker url name noopener user Nothing = (sync_stays _, tt)
 chosen_stays rules log fragment r asker url name noopener user New = (window_stays rules (tree_of log) asker name noopener url, tt)
@@ -129,14 +129,14 @@ chosen_stays rules log fragment r asker None name noopener user (Existing n) = s
 chosen_stays rules log fragment r asker (Some url) name noopener user (Existing n) =
     let t : Tree = tree_of log in
     decides_if log (may_navigate t (nav_of t asker) n user)
-    (record { entries = opener_entry t r asker noopener n ++ by r asker (navigation rules t fragment asker n url) ∷ []; outcome = made_or_null noopener n }) (one r asker what.Sync (reply.Security 7))
-    (front_stays log r asker n (noopener || n == nav_of t asker) (navigation rules t fragment asker n url) (navigation_stays rules t fragment asker n url)) (sync_stays _, tt)
+    (record { entries = opener_entry t r asker noopener n ++ by r asker (navigation rules t (fragment n url) asker n url) ∷ []; outcome = made_or_null noopener n }) (one r asker what.Sync (reply.Security 7))
+    (front_stays log r asker n (noopener || n == nav_of t asker) (navigation rules t (fragment n url) asker n url) (navigation_stays rules t (fragment n url) asker n url)) (sync_stays _, tt)
 
-link_stays : (rules : Rules) (t : Tree) (fragment : Bool) (asker : ℕ) (url name : List ℕ) (noopener user : Bool) (c : Choice) → Stays t (link_chosen rules t fragment asker url name noopener user c)
+link_stays : (rules : Rules) (t : Tree) (fragment : ℕ → List ℕ → Bool) (asker : ℕ) (url name : List ℕ) (noopener user : Bool) (c : Choice) → Stays t (link_chosen rules t fragment asker url name noopener user c)
 link_stays rules t fragment asker url name noopener user Nothing = sync_stays t
 link_stays rules t fragment asker url name noopener user New = window_stays rules t asker name noopener (Some url)
 link_stays rules t fragment asker url name noopener user (Existing n) =
-    stays_if t (may_navigate t (nav_of t asker) n user) (navigation rules t fragment asker n url) what.Sync (navigation_stays rules t fragment asker n url) (sync_stays t)
+    stays_if t (may_navigate t (nav_of t asker) n user) (navigation rules t (fragment n url) asker n url) what.Sync (navigation_stays rules t (fragment n url) asker n url) (sync_stays t)
 
 open_stays : (log : List Entry) (r asker doc : ℕ) (w : What) → Stays (tree_of log) w → AllStay log (if_open (tree_of log) r asker doc w).entries
 open_stays log r asker doc w s =
@@ -144,7 +144,7 @@ open_stays log r asker doc w s =
     decides_if log (is_live t asker doc) (if same_domain t asker doc then one r asker w reply.Done else one r asker what.Sync (reply.Security 8)) (one r asker what.Sync reply.Done)
     (decides_if log (same_domain t asker doc) (one r asker w reply.Done) (one r asker what.Sync (reply.Security 8)) (s, tt) (sync_stays t, tt)) (sync_stays t, tt)
 
-decide_stays : (rules : Rules) (log : List Entry) (fragment : Bool) (r : ℕ) (q : Request) → AllStay log (decide rules (tree_of log) fragment r q).entries
+decide_stays : (rules : Rules) (log : List Entry) (fragment : ℕ → List ℕ → Bool) (r : ℕ) (q : Request) → AllStay log (decide rules (tree_of log) fragment r q).entries
 unfolding decide
 decide_stays rules log fragment r ask.Next = tt
 decide_stays rules log fragment r (ask.Sync asker) = (sync_stays _, tt)
@@ -157,9 +157,9 @@ decide_stays rules log fragment r (ask.Link asker url name noopener user) =
     (link_stays rules (tree_of log) fragment asker url name noopener user (choice (tree_of log) (nav_of (tree_of log) asker) name noopener user), tt)
 decide_stays rules log fragment r (ask.Go asker doc url user) =
     let t : Tree = tree_of log in
-    decides_if log (is_live t asker doc) (if may_navigate t (nav_of t asker) (nav_of t doc) user then one r asker (navigation rules t fragment asker (nav_of t doc) url) reply.Done else one r asker what.Sync (reply.Security 7)) (one r asker what.Sync reply.Done)
-    (decides_if log (may_navigate t (nav_of t asker) (nav_of t doc) user) (one r asker (navigation rules t fragment asker (nav_of t doc) url) reply.Done) (one r asker what.Sync (reply.Security 7))
-    (navigation_stays rules t fragment asker (nav_of t doc) url, tt) (sync_stays t, tt))
+    decides_if log (is_live t asker doc) (if may_navigate t (nav_of t asker) (nav_of t doc) user then one r asker (navigation rules t (fragment (nav_of t doc) url) asker (nav_of t doc) url) reply.Done else one r asker what.Sync (reply.Security 7)) (one r asker what.Sync reply.Done)
+    (decides_if log (may_navigate t (nav_of t asker) (nav_of t doc) user) (one r asker (navigation rules t (fragment (nav_of t doc) url) asker (nav_of t doc) url) reply.Done) (one r asker what.Sync (reply.Security 7))
+    (navigation_stays rules t (fragment (nav_of t doc) url) asker (nav_of t doc) url, tt) (sync_stays t, tt))
     (sync_stays t, tt)
 decide_stays rules log fragment r (ask.Name asker doc name) = open_stays log r asker doc (what.Name (nav_of (tree_of log) doc) name) (record { there = tt; none_made = λ d lt. refl })
 decide_stays rules log fragment r (ask.Disown asker doc) = open_stays log r asker doc (what.Opener (nav_of (tree_of log) doc) None) (opener_stays _ _ _)

@@ -18,7 +18,7 @@ use Rattle.agent_terms.specs.declared.request.Request.TheVariants as ask
 use Rattle.agent_terms.specs.declared.request.ReplyOutcome.TheVariants as reply
 use Rattle.coordinator_rules.specs.NextTask.{next_task, first_task, task_of, ends, is_over}
 use Rattle.coordinator_rules.specs.Navigation.{may_navigate, Choice, Existing, New, Nothing, choice}
-use Rattle.coordinator_rules.specs.Decision.{Rules, Decision, decide, exchange, end_of, is_fragment, asker_of, by, one, navigation, opener_entry, made_or_null, open_chosen, is_live, home_if_active}
+use Rattle.coordinator_rules.specs.Decision.{Rules, Decision, decide, exchange, end_of, is_in_fragment, asker_of, by, one, navigation, opener_entry, made_or_null, open_chosen, is_live, home_if_active}
 use Rattle.agent_laws.specs.Actors.{is_next}
 use Rattle.agent_laws.proofs.Logs.Exchanges.{exchange-asked, asked-decided, not_yours, unloaded}
 
@@ -26,25 +26,25 @@ outcome_if : (test : Bool) (a b other : Decision) → a.outcome ≡ b.outcome �
 outcome_if true a b other h = h
 outcome_if false a b other h = refl
 
-opened_outcome : (rules : Rules) (t : Tree) (f g : Bool) (r asker : ℕ) (url : Option (List ℕ)) (name : List ℕ) (noopener user : Bool) (c : Choice)
+opened_outcome : (rules : Rules) (t : Tree) (f g : ℕ → List ℕ → Bool) (r asker : ℕ) (url : Option (List ℕ)) (name : List ℕ) (noopener user : Bool) (c : Choice)
     → (open_chosen rules t f r asker url name noopener user c).outcome ≡ (open_chosen rules t g r asker url name noopener user c).outcome
 opened_outcome rules t f g r asker url name noopener user Nothing = refl
 opened_outcome rules t f g r asker url name noopener user New = refl
 opened_outcome rules t f g r asker None name noopener user (Existing n) = refl
-opened_outcome rules t f g r asker (Some url) name noopener user (Existing n) = outcome_if (may_navigate t (nav_of t asker) n user) (to_url f) (to_url g) (one r asker Sync (reply.Security 7)) refl
+opened_outcome rules t f g r asker (Some url) name noopener user (Existing n) = outcome_if (may_navigate t (nav_of t asker) n user) (to_url (f n url)) (to_url (g n url)) (one r asker Sync (reply.Security 7)) refl
   where
     to_url : Bool → Decision
     to_url fragment = record { entries = opener_entry t r asker noopener n ++ by r asker (navigation rules t fragment asker n url) ∷ []; outcome = made_or_null noopener n }
 
 -- whether a request is a fragment navigation doesn't show in its outcome
-decide_outcome : (rules : Rules) (t : Tree) (f g : Bool) (r : ℕ) (q : Request) → (decide rules t f r q).outcome ≡ (decide rules t g r q).outcome
+decide_outcome : (rules : Rules) (t : Tree) (f g : ℕ → List ℕ → Bool) (r : ℕ) (q : Request) → (decide rules t f r q).outcome ≡ (decide rules t g r q).outcome
 unfolding decide
 decide_outcome rules t f g r (ask.Open asker url name noopener user) = opened_outcome rules t f g r asker url name noopener user (choice t (nav_of t asker) name noopener user)
 decide_outcome rules t f g r (ask.Go asker doc url user) =
     let n : ℕ = nav_of t doc in
-    outcome_if (is_live t asker doc) (if may_navigate t (nav_of t asker) n user then one r asker (navigation rules t f asker n url) reply.Done else one r asker Sync (reply.Security 7))
-    (if may_navigate t (nav_of t asker) n user then one r asker (navigation rules t g asker n url) reply.Done else one r asker Sync (reply.Security 7)) (one r asker Sync reply.Done)
-    (outcome_if (may_navigate t (nav_of t asker) n user) (one r asker (navigation rules t f asker n url) reply.Done) (one r asker (navigation rules t g asker n url) reply.Done) (one r asker Sync (reply.Security 7)) refl)
+    outcome_if (is_live t asker doc) (if may_navigate t (nav_of t asker) n user then one r asker (navigation rules t (f n url) asker n url) reply.Done else one r asker Sync (reply.Security 7))
+    (if may_navigate t (nav_of t asker) n user then one r asker (navigation rules t (g n url) asker n url) reply.Done else one r asker Sync (reply.Security 7)) (one r asker Sync reply.Done)
+    (outcome_if (may_navigate t (nav_of t asker) n user) (one r asker (navigation rules t (f n url) asker n url) reply.Done) (one r asker (navigation rules t (g n url) asker n url) reply.Done) (one r asker Sync (reply.Security 7)) refl)
 decide_outcome rules t f g r q = refl
 
 end_of-blanked : (kept : ℕ → Bool) (log : List Entry) (d : ℕ) → end_of (blanked kept log) d ≡ end_of log d
@@ -52,7 +52,7 @@ unfolding end_of
 end_of-blanked kept [] d = refl
 end_of-blanked kept (e ∷ older) d = rw (tree_of-blanked kept older, length-blanked kept older, end_of-blanked kept older d) refl
 
-asked_outcome : (rules : Rules) (t : Tree) (f g : Bool) (r : ℕ) (q : Request) (place : ℕ) (active home : Bool)
+asked_outcome : (rules : Rules) (t : Tree) (f g : ℕ → List ℕ → Bool) (r : ℕ) (q : Request) (place : ℕ) (active home : Bool)
     → (if home then (if active then decide rules t f r q else unloaded place) else not_yours t (asker_of q)).outcome
     ≡ (if home then (if active then decide rules t g r q else unloaded place) else not_yours t (asker_of q)).outcome
 asked_outcome rules t f g r q place true true = decide_outcome rules t f g r q
@@ -64,7 +64,7 @@ pub outcome-blanked : (rules : Rules) (kept : ℕ → Bool) (log : List Entry) (
     → (exchange rules (blanked kept log) r q).outcome ≡ (exchange rules log r q).outcome
 outcome-blanked rules kept log r q other =
     rw (exchange-asked rules (blanked kept log) r q other, exchange-asked rules log r q other, asked-decided rules (blanked kept log) r q, asked-decided rules log r q, tree_of-blanked kept log, end_of-blanked kept log (asker_of q))
-    (asked_outcome rules (tree_of log) (is_fragment (tree_of log) (url_of (blanked kept log)) q) (is_fragment (tree_of log) (url_of log) q) r q (end_of log (asker_of q))
+    (asked_outcome rules (tree_of log) (is_in_fragment (tree_of log) (url_of (blanked kept log))) (is_in_fragment (tree_of log) (url_of log)) r q (end_of log (asker_of q))
     (is_active (tree_of log) (asker_of q)) (is (home_if_active (tree_of log) (asker_of q)) r))
 
 -- TASKS

@@ -261,7 +261,7 @@ sync_opens : (t : Tree) (r asker n : ℕ) (b : Bool) → SetIn t n (Some (nav_of
 sync_opens t r asker n true h = (tt, tt)
 sync_opens t r asker n false h = (h, tt)
 
-chosen_opens : (rules : Rules) (t : Tree) (fragment : Bool) (r asker : ℕ) (url : Option (List ℕ)) (name : List ℕ) (noopener user : Bool) → IsClosed t → asker < t.docs → (c : Choice) → ChoosesIn t asker c
+chosen_opens : (rules : Rules) (t : Tree) (fragment : ℕ → List ℕ → Bool) (r asker : ℕ) (url : Option (List ℕ)) (name : List ℕ) (noopener user : Bool) → IsClosed t → asker < t.docs → (c : Choice) → ChoosesIn t asker c
     → DecidesIn t (open_chosen rules t fragment r asker url name noopener user c)
 chosen_opens rules t fragment r asker url name noopener user closed there Nothing h = (tt, tt)
 chosen_opens rules t fragment r asker url name noopener user closed there New h = (window_opens rules t asker name noopener url closed there, tt)
@@ -269,15 +269,15 @@ chosen_opens rules t fragment r asker None name noopener user closed there (Exis
     sync_opens t r asker n (noopener || n == nav_of t asker) (set_in t asker n closed there (h n refl).0 (h n refl).1)
 chosen_opens rules t fragment r asker (Some url) name noopener user closed there (Existing n) h =
     decides_if t (may_navigate t (nav_of t asker) n user)
-    (record { entries = opener_entry t r asker noopener n ++ by r asker (navigation rules t fragment asker n url) ∷ []; outcome = made_or_null noopener n }) (one r asker what.Sync (reply.Security 7))
-    (front_opens t r asker n (noopener || n == nav_of t asker) (navigation rules t fragment asker n url) (set_in t asker n closed there (h n refl).0 (h n refl).1) (navigation_opens rules t fragment asker n url))
+    (record { entries = opener_entry t r asker noopener n ++ by r asker (navigation rules t (fragment n url) asker n url) ∷ []; outcome = made_or_null noopener n }) (one r asker what.Sync (reply.Security 7))
+    (front_opens t r asker n (noopener || n == nav_of t asker) (navigation rules t (fragment n url) asker n url) (set_in t asker n closed there (h n refl).0 (h n refl).1) (navigation_opens rules t (fragment n url) asker n url))
     (tt, tt)
 
-link_opens : (rules : Rules) (t : Tree) (fragment : Bool) (asker : ℕ) (url name : List ℕ) (noopener user : Bool) → IsClosed t → asker < t.docs → (c : Choice) → OpensIn t (link_chosen rules t fragment asker url name noopener user c)
+link_opens : (rules : Rules) (t : Tree) (fragment : ℕ → List ℕ → Bool) (asker : ℕ) (url name : List ℕ) (noopener user : Bool) → IsClosed t → asker < t.docs → (c : Choice) → OpensIn t (link_chosen rules t fragment asker url name noopener user c)
 link_opens rules t fragment asker url name noopener user closed there Nothing = tt
 link_opens rules t fragment asker url name noopener user closed there New = window_opens rules t asker name noopener (Some url) closed there
 link_opens rules t fragment asker url name noopener user closed there (Existing n) =
-    opens_if t (may_navigate t (nav_of t asker) n user) (navigation rules t fragment asker n url) what.Sync (navigation_opens rules t fragment asker n url) tt
+    opens_if t (may_navigate t (nav_of t asker) n user) (navigation rules t (fragment n url) asker n url) what.Sync (navigation_opens rules t (fragment n url) asker n url) tt
 
 live_opens : (t : Tree) (r asker doc : ℕ) (w : What) → OpensIn t w → DecidesIn t (if_open t r asker doc w)
 live_opens t r asker doc w k =
@@ -285,7 +285,7 @@ live_opens t r asker doc w k =
     (decides_if t (same_domain t asker doc) (one r asker w reply.Done) (one r asker what.Sync (reply.Security 8)) (k, tt) (tt, tt))
     (tt, tt)
 
-decide_opens : (rules : Rules) (t : Tree) (fragment : Bool) (r : ℕ) (q : Request) → IsClosed t → asker_of q < t.docs → DecidesIn t (decide rules t fragment r q)
+decide_opens : (rules : Rules) (t : Tree) (fragment : ℕ → List ℕ → Bool) (r : ℕ) (q : Request) → IsClosed t → asker_of q < t.docs → DecidesIn t (decide rules t fragment r q)
 unfolding decide
 decide_opens rules t fragment r ask.Next closed there = tt
 decide_opens rules t fragment r (ask.Sync asker) closed there = (tt, tt)
@@ -296,9 +296,9 @@ decide_opens rules t fragment r (ask.Open asker url name noopener user) closed t
 decide_opens rules t fragment r (ask.Link asker url name noopener user) closed there =
     (link_opens rules t fragment asker url name noopener user closed there (choice t (nav_of t asker) name noopener user), tt)
 decide_opens rules t fragment r (ask.Go asker doc url user) closed there =
-    decides_if t (is_live t asker doc) (if may_navigate t (nav_of t asker) (nav_of t doc) user then one r asker (navigation rules t fragment asker (nav_of t doc) url) reply.Done else one r asker what.Sync (reply.Security 7)) (one r asker what.Sync reply.Done)
-    (decides_if t (may_navigate t (nav_of t asker) (nav_of t doc) user) (one r asker (navigation rules t fragment asker (nav_of t doc) url) reply.Done) (one r asker what.Sync (reply.Security 7))
-    (navigation_opens rules t fragment asker (nav_of t doc) url, tt) (tt, tt))
+    decides_if t (is_live t asker doc) (if may_navigate t (nav_of t asker) (nav_of t doc) user then one r asker (navigation rules t (fragment (nav_of t doc) url) asker (nav_of t doc) url) reply.Done else one r asker what.Sync (reply.Security 7)) (one r asker what.Sync reply.Done)
+    (decides_if t (may_navigate t (nav_of t asker) (nav_of t doc) user) (one r asker (navigation rules t (fragment (nav_of t doc) url) asker (nav_of t doc) url) reply.Done) (one r asker what.Sync (reply.Security 7))
+    (navigation_opens rules t (fragment (nav_of t doc) url) asker (nav_of t doc) url, tt) (tt, tt))
     (tt, tt)
 decide_opens rules t fragment r (ask.Name asker doc name) closed there = live_opens t r asker doc (what.Name (nav_of t doc) name) tt
 decide_opens rules t fragment r (ask.Disown asker doc) closed there = live_opens t r asker doc (what.Opener (nav_of t doc) None) tt

@@ -73,9 +73,13 @@ legal_closed s log (Gave_up older r legal there) short =
 pub closed_legal : (s : Session) (log : List Entry) → IsLegalLog s log → length log < 2 ^ 30 → IsClosed (tree_of log)
 closed_legal s log legal short = closed_now log (legal_closed s log legal short)
 
+-- and was at each of its lengths
+pub closed_before_legal : (s : Session) (log : List Entry) (k : ℕ) → IsLegalLog s log → length log < 2 ^ 30 → IsClosed (tree_of (prefix k log))
+closed_before_legal s log k legal short = prefix_closed k log (legal_closed s log legal short)
+
 -- the log of a play is closed, and was at each of its lengths
 pub closed_played : (s : Session) (turns : List Turned) → ArePlayed s turns → length (log_of s turns) < 2 ^ 30 → IsClosed (tree_of (log_of s turns))
 closed_played s turns played short = closed_legal s (log_of s turns) (legal_log s turns played) short
 
 pub closed_before : (s : Session) (turns : List Turned) (k : ℕ) → ArePlayed s turns → length (log_of s turns) < 2 ^ 30 → IsClosed (tree_of (prefix k (log_of s turns)))
-closed_before s turns k played short = prefix_closed k (log_of s turns) (legal_closed s (log_of s turns) (legal_log s turns played) short)
+closed_before s turns k played short = closed_before_legal s (log_of s turns) k (legal_log s turns played) short

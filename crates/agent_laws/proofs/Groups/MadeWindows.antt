@@ -7,7 +7,7 @@ use Rattle.tree_log.specs.declared.entry.Entry.{Entry}
 use Rattle.tree_log.specs.declared.entry.What.{What}
 use Rattle.tree_log.specs.declared.entry.What.TheVariants as what
 use Rattle.tree_log.specs.Facts.{Making}
-use Rattle.tree_log.specs.Tree.{Tree, tree_of, tree_after, tree_of_step, nav_of, origin_of, group_of, same_domain}
+use Rattle.tree_log.specs.Tree.{Tree, tree_of, tree_after, tree_of_step, nav_of, group_of, same_domain}
 use Rattle.tree_log.specs.Admits.{admits, AreAdmitted}
 use Rattle.agent_terms.specs.declared.request.Request.{Request}
 use Rattle.agent_terms.specs.declared.request.Request.TheVariants as ask
@@ -119,7 +119,7 @@ makes_existing log es asker n false b nav all is =
     let same : n ≡ nav = cc in
     subst (λ (m : ℕ). Belongs (tree_of (es ++ log)) asker (value.Window m)) same (belongs_grown es log asker (value.Window n) all b)
 
-chosen_makes : (rules : Rules) (log : List Entry) (fragment : Bool) (r asker : ℕ) (url : Option (List ℕ)) (name : List ℕ) (noopener user : Bool) → IsWell (tree_of log) → asker < (tree_of log).docs
+chosen_makes : (rules : Rules) (log : List Entry) (fragment : ℕ → List ℕ → Bool) (r asker : ℕ) (url : Option (List ℕ)) (name : List ℕ) (noopener user : Bool) → IsWell (tree_of log) → asker < (tree_of log).docs
     → (c : Choice) → ChoosesIn (tree_of log) asker c → MakesIn log asker (open_chosen rules (tree_of log) fragment r asker url name noopener user c)
 chosen_makes rules log fragment r asker url name noopener user well there Nothing h = makes_none log r asker what.Sync reply.Null (λ nav is. cc)
 chosen_makes rules log fragment r asker url name noopener user well there New h = makes_window rules log r asker name noopener url well there
@@ -127,11 +127,11 @@ chosen_makes rules log fragment r asker None name noopener user well there (Exis
     makes_existing log (or_sync r asker (opener_entry (tree_of log) r asker noopener n)) asker n noopener (there, (h n refl).0, (h n refl).1)
 chosen_makes rules log fragment r asker (Some url) name noopener user well there (Existing n) h =
     let t : Tree = tree_of log in
-    let es : List Entry = opener_entry t r asker noopener n ++ by r asker (navigation rules t fragment asker n url) ∷ [] in
+    let es : List Entry = opener_entry t r asker noopener n ++ by r asker (navigation rules t (fragment n url) asker n url) ∷ [] in
     makes_if log asker (may_navigate t (nav_of t asker) n user) (record { entries = es; outcome = made_or_null noopener n }) (one r asker what.Sync (reply.Security 7))
     (makes_existing log es asker n noopener (there, (h n refl).0, (h n refl).1)) (makes_none log r asker what.Sync (reply.Security 7) (λ nav is. cc))
 
-decide_makes : (rules : Rules) (log : List Entry) (fragment : Bool) (r : ℕ) (q : Request) → IsClosed (tree_of log) → asker_of q < (tree_of log).docs → MakesIn log (asker_of q) (decide rules (tree_of log) fragment r q)
+decide_makes : (rules : Rules) (log : List Entry) (fragment : ℕ → List ℕ → Bool) (r : ℕ) (q : Request) → IsClosed (tree_of log) → asker_of q < (tree_of log).docs → MakesIn log (asker_of q) (decide rules (tree_of log) fragment r q)
 unfolding decide
 decide_makes rules log fragment r (ask.Frame asker name flags url) closed there = makes_frame rules log r asker name (union flags (flags_in (tree_of log) (nav_of (tree_of log) asker))) url closed.well there
 decide_makes rules log fragment r (ask.Open asker url name noopener user) closed there =
@@ -139,7 +139,7 @@ decide_makes rules log fragment r (ask.Open asker url name noopener user) closed
     chosen_makes rules log fragment r asker url name noopener user closed.well there (choice t (nav_of t asker) name noopener user) (asker_chooses t closed asker name noopener user there)
 decide_makes rules log fragment r (ask.Go asker doc url user) closed there =
     let t : Tree = tree_of log in
-    none_twice log r asker (is_live t asker doc) (may_navigate t (nav_of t asker) (nav_of t doc) user) what.Sync (navigation rules t fragment asker (nav_of t doc) url) 7
+    none_twice log r asker (is_live t asker doc) (may_navigate t (nav_of t asker) (nav_of t doc) user) what.Sync (navigation rules t (fragment (nav_of t doc) url) asker (nav_of t doc) url) 7
 decide_makes rules log fragment r (ask.Name asker doc name) closed there =
     let t : Tree = tree_of log in
     none_twice log r asker (is_live t asker doc) (same_domain t asker doc) what.Sync (what.Name (nav_of t doc) name) 8

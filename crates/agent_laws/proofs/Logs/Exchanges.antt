@@ -8,7 +8,7 @@ use Rattle.tree_log.specs.Urls.{url_of}
 use Rattle.agent_terms.specs.declared.request.Request.{Request}
 use Rattle.agent_terms.specs.declared.request.Request.TheVariants as ask
 use Rattle.agent_terms.specs.declared.request.ReplyOutcome.TheVariants as reply
-use Rattle.coordinator_rules.specs.Decision.{Rules, Decision, decide, asked_decision, exchange, end_of, is_fragment, asker_of, home_if_active}
+use Rattle.coordinator_rules.specs.Decision.{Rules, Decision, decide, asked_decision, exchange, end_of, is_in_fragment, asker_of, home_if_active}
 use Rattle.agent_laws.specs.Actors.{is_next}
 
 abbrev pub not_yours : Tree → ℕ → Decision
@@ -24,7 +24,7 @@ exchange-asked rules log r ask.Next h = absurd cc
 exchange-asked rules log r _ h = refl
 
 pub asked-decided : (rules : Rules) (log : List Entry) (r : ℕ) (q : Request)
-    → asked_decision rules log r q ≡ (if is_active (tree_of log) (asker_of q) then decide rules (tree_of log) (is_fragment (tree_of log) (url_of log) q) r q else unloaded (end_of log (asker_of q)))
+    → asked_decision rules log r q ≡ (if is_active (tree_of log) (asker_of q) then decide rules (tree_of log) (is_in_fragment (tree_of log) (url_of log)) r q else unloaded (end_of log (asker_of q)))
 unfolding asked_decision
 asked-decided rules log r q = refl
 
@@ -40,13 +40,13 @@ at_home t d r h = active_case (t.doc d).been_active refl h
 pub decided_or_none : (P : Decision → Type 0) (rules : Rules) (log : List Entry) (r : ℕ) (q : Request) → is_next q ≡ false
     → P (not_yours (tree_of log) (asker_of q)) → P (unloaded (end_of log (asker_of q)))
     → (((tree_of log).doc (asker_of q)).been_active ≡ true → home_of (tree_of log) (asker_of q) ≡ r → is_active (tree_of log) (asker_of q) ≡ true
-    → P (decide rules (tree_of log) (is_fragment (tree_of log) (url_of log) q) r q))
+    → P (decide rules (tree_of log) (is_in_fragment (tree_of log) (url_of log)) r q))
     → P (exchange rules log r q)
 decided_or_none P rules log r q other none ended decided =
     rw (exchange-asked rules log r q other) (home_case (is (home_if_active (tree_of log) (asker_of q)) r) refl)
   where
     active_case : (b : Bool) → is_active (tree_of log) (asker_of q) ≡ b → is (home_if_active (tree_of log) (asker_of q)) r ≡ true
-        → P (if b then decide rules (tree_of log) (is_fragment (tree_of log) (url_of log) q) r q else unloaded (end_of log (asker_of q)))
+        → P (if b then decide rules (tree_of log) (is_in_fragment (tree_of log) (url_of log)) r q else unloaded (end_of log (asker_of q)))
     active_case true e h = let at = at_home (tree_of log) (asker_of q) r h in decided at.0 at.1 e
     active_case false e h = ended
 

@@ -4,7 +4,7 @@ use Rattle.std.specs.Prelude.{◌⊎◌, ◌||◌, ◌==◌, if◌then◌else◌
 use Rattle.tree_log.specs.declared.entry.Entry.{Entry}
 use Rattle.tree_log.specs.declared.entry.What.{What}
 use Rattle.tree_log.specs.declared.entry.What.TheVariants as what
-use Rattle.tree_log.specs.Tree.{Tree, tree_of, nav_of, origin_of, same_domain}
+use Rattle.tree_log.specs.Tree.{Tree, tree_of, nav_of, same_domain}
 use Rattle.agent_terms.specs.declared.request.Request.{Request}
 use Rattle.agent_terms.specs.declared.request.Request.TheVariants as ask
 use Rattle.agent_terms.specs.declared.request.ReplyOutcome.{ReplyOutcome}
@@ -34,26 +34,26 @@ acted_sync : (r asker to n : ℕ) (b : Bool) → AreActedBy r (Some asker) (or_s
 acted_sync r asker to n true = ((refl, refl), tt)
 acted_sync r asker to n false = ((refl, refl), tt)
 
-acted_opened : (rules : Rules) (t : Tree) (f : Bool) (r asker : ℕ) (url : Option (List ℕ)) (name : List ℕ) (noopener user : Bool) (c : Choice) → Acted r (Some asker) (open_chosen rules t f r asker url name noopener user c)
+acted_opened : (rules : Rules) (t : Tree) (f : ℕ → List ℕ → Bool) (r asker : ℕ) (url : Option (List ℕ)) (name : List ℕ) (noopener user : Bool) (c : Choice) → Acted r (Some asker) (open_chosen rules t f r asker url name noopener user c)
 unfolding Acted
 acted_opened rules t f r asker url name noopener user Nothing = acted_one r asker what.Sync reply.Null
 acted_opened rules t f r asker url name noopener user New = acted_one r asker (new_window rules t asker name noopener url) (made_or_null noopener t.navs)
 acted_opened rules t f r asker None name noopener user (Existing n) = acted_sync r asker (nav_of t asker) n (noopener || n == nav_of t asker)
 acted_opened rules t f r asker (Some url) name noopener user (Existing n) =
-    acted_if r (Some asker) (may_navigate t (nav_of t asker) n user) (record { entries = opener_entry t r asker noopener n ++ by r asker (navigation rules t f asker n url) ∷ []; outcome = made_or_null noopener n }) (one r asker what.Sync (reply.Security 7))
-    (acted_front r asker (nav_of t asker) n (noopener || n == nav_of t asker) (navigation rules t f asker n url)) (acted_one r asker what.Sync (reply.Security 7))
+    acted_if r (Some asker) (may_navigate t (nav_of t asker) n user) (record { entries = opener_entry t r asker noopener n ++ by r asker (navigation rules t (f n url) asker n url) ∷ []; outcome = made_or_null noopener n }) (one r asker what.Sync (reply.Security 7))
+    (acted_front r asker (nav_of t asker) n (noopener || n == nav_of t asker) (navigation rules t (f n url) asker n url)) (acted_one r asker what.Sync (reply.Security 7))
 
 acted_twice : (r asker : ℕ) (a b : Bool) (w : What) (o p q : ReplyOutcome) → Acted r (Some asker) (if a then if b then one r asker w o else one r asker what.Sync p else one r asker what.Sync q)
 acted_twice r asker true true w o p q = acted_one r asker w o
 acted_twice r asker true false w o p q = acted_one r asker what.Sync p
 acted_twice r asker false b w o p q = acted_one r asker what.Sync q
 
-decide-acted : (rules : Rules) (t : Tree) (f : Bool) (r : ℕ) (q : Request) → Acted r (Some (asker_of q)) (decide rules t f r q)
+decide-acted : (rules : Rules) (t : Tree) (f : ℕ → List ℕ → Bool) (r : ℕ) (q : Request) → Acted r (Some (asker_of q)) (decide rules t f r q)
 unfolding decide Acted
 decide-acted rules t f r ask.Next = tt
 decide-acted rules t f r (ask.Open asker url name noopener user) = acted_opened rules t f r asker url name noopener user (choice t (nav_of t asker) name noopener user)
 decide-acted rules t f r (ask.Go asker doc url user) =
-    acted_twice r asker (is_live t asker doc) (may_navigate t (nav_of t asker) (nav_of t doc) user) (navigation rules t f asker (nav_of t doc) url) reply.Done (reply.Security 7) reply.Done
+    acted_twice r asker (is_live t asker doc) (may_navigate t (nav_of t asker) (nav_of t doc) user) (navigation rules t (f (nav_of t doc) url) asker (nav_of t doc) url) reply.Done (reply.Security 7) reply.Done
 decide-acted rules t f r (ask.Name asker doc name) =
     acted_twice r asker (is_live t asker doc) (same_domain t asker doc) (what.Name (nav_of t doc) name) reply.Done (reply.Security 8) reply.Done
 decide-acted rules t f r (ask.Disown asker doc) =

@@ -223,7 +223,7 @@ sync_steps : (rules : Rules) (log : List Entry) (r asker n : ℕ) (b : Bool) →
 sync_steps rules log r asker n true a lt = (sync_fits rules (tree_of log) r asker a, tt)
 sync_steps rules log r asker n false a lt = (opener_fits rules (tree_of log) r asker n (nav_of (tree_of log) asker) a lt (a.well.below asker a.there), tt)
 
-steps_opened : (rules : Rules) (log : List Entry) (fragment : Bool) (r asker : ℕ) (url : Option (List ℕ)) (name : List ℕ) (noopener user : Bool) → AreAdmitted log → length log < 1073741825 → IsAsking (tree_of log) asker
+steps_opened : (rules : Rules) (log : List Entry) (fragment : ℕ → List ℕ → Bool) (r asker : ℕ) (url : Option (List ℕ)) (name : List ℕ) (noopener user : Bool) → AreAdmitted log → length log < 1073741825 → IsAsking (tree_of log) asker
     → (c : Choice) → IsChoiceBelow (tree_of log).navs c → Steps rules log (open_chosen rules (tree_of log) fragment r asker url name noopener user c)
 steps_opened rules log fragment r asker url name noopener user all short a Nothing h = (sync_fits rules (tree_of log) r asker a, tt)
 steps_opened rules log fragment r asker url name noopener user all short a New h = (window_fits rules (tree_of log) r asker name noopener url a, tt)
@@ -231,15 +231,15 @@ steps_opened rules log fragment r asker None name noopener user all short a (Exi
 steps_opened rules log fragment r asker (Some url) name noopener user all short a (Existing n) h =
     let t : Tree = tree_of log in
     steps_if rules log (may_navigate t (nav_of t asker) n user)
-    (record { entries = opener_entry t r asker noopener n ++ by r asker (navigation rules t fragment asker n url) ∷ []; outcome = made_or_null noopener n }) (one r asker what.Sync (reply.Security 7))
-    (front_steps rules log fragment r asker n url (noopener || n == nav_of t asker) all short a h) (sync_fits rules t r asker a, tt)
+    (record { entries = opener_entry t r asker noopener n ++ by r asker (navigation rules t (fragment n url) asker n url) ∷ []; outcome = made_or_null noopener n }) (one r asker what.Sync (reply.Security 7))
+    (front_steps rules log (fragment n url) r asker n url (noopener || n == nav_of t asker) all short a h) (sync_fits rules t r asker a, tt)
 
-link_fits : (rules : Rules) (t : Tree) (fragment : Bool) (r asker : ℕ) (url name : List ℕ) (noopener user : Bool) → IsAsking t asker → (c : Choice) → IsChoiceBelow t.navs c
+link_fits : (rules : Rules) (t : Tree) (fragment : ℕ → List ℕ → Bool) (r asker : ℕ) (url name : List ℕ) (noopener user : Bool) → IsAsking t asker → (c : Choice) → IsChoiceBelow t.navs c
     → IsFit rules t (by r asker (link_chosen rules t fragment asker url name noopener user c))
 link_fits rules t fragment r asker url name noopener user a Nothing h = sync_fits rules t r asker a
 link_fits rules t fragment r asker url name noopener user a New h = window_fits rules t r asker name noopener (Some url) a
 link_fits rules t fragment r asker url name noopener user a (Existing n) h =
-    fit_if rules t r asker (may_navigate t (nav_of t asker) n user) (navigation rules t fragment asker n url) what.Sync (λ may. navigation_fits rules t fragment r asker n url a h) (sync_fits rules t r asker a)
+    fit_if rules t r asker (may_navigate t (nav_of t asker) n user) (navigation rules t (fragment n url) asker n url) what.Sync (λ may. navigation_fits rules t (fragment n url) r asker n url a h) (sync_fits rules t r asker a)
 
 -- a document that is there, in the asker's group
 near_below : (t : Tree) (asker doc : ℕ) → is_near t asker doc ≡ true → doc < t.docs
@@ -255,7 +255,7 @@ steps_if_open rules log r asker doc w a fit =
     (λ live. steps_if rules log (same_domain t asker doc) (one r asker w reply.Done) (one r asker what.Sync (reply.Security 8)) (fit (live_below t asker doc live), tt) (sync_fits rules t r asker a, tt))
     (sync_fits rules t r asker a, tt)
 
-pub decide-steps : (rules : Rules) (log : List Entry) (fragment : Bool) (r : ℕ) (q : Request) → AreAdmitted log → length log < 1073741825 → IsAsking (tree_of log) (asker_of q)
+pub decide-steps : (rules : Rules) (log : List Entry) (fragment : ℕ → List ℕ → Bool) (r : ℕ) (q : Request) → AreAdmitted log → length log < 1073741825 → IsAsking (tree_of log) (asker_of q)
     → Steps rules log (decide rules (tree_of log) fragment r q)
 unfolding decide is_maker
 decide-steps rules log fragment r ask.Next all short a = tt
@@ -275,9 +275,9 @@ decide-steps rules log fragment r (ask.Link asker url name noopener user) all sh
     (link_fits rules t fragment r asker url name noopener user a (choice t (nav_of t asker) name noopener user) (choice_below t a.well (nav_of t asker) name noopener user (a.well.below asker a.there)), tt)
 decide-steps rules log fragment r (ask.Go asker doc url user) all short a =
     let t : Tree = tree_of log in
-    steps_then rules log (is_live t asker doc) (if may_navigate t (nav_of t asker) (nav_of t doc) user then one r asker (navigation rules t fragment asker (nav_of t doc) url) reply.Done else one r asker what.Sync (reply.Security 7)) (one r asker what.Sync reply.Done)
-    (λ live. steps_if rules log (may_navigate t (nav_of t asker) (nav_of t doc) user) (one r asker (navigation rules t fragment asker (nav_of t doc) url) reply.Done) (one r asker what.Sync (reply.Security 7))
-    (navigation_fits rules t fragment r asker (nav_of t doc) url a (a.well.below doc (live_below t asker doc live)), tt) (sync_fits rules t r asker a, tt))
+    steps_then rules log (is_live t asker doc) (if may_navigate t (nav_of t asker) (nav_of t doc) user then one r asker (navigation rules t (fragment (nav_of t doc) url) asker (nav_of t doc) url) reply.Done else one r asker what.Sync (reply.Security 7)) (one r asker what.Sync reply.Done)
+    (λ live. steps_if rules log (may_navigate t (nav_of t asker) (nav_of t doc) user) (one r asker (navigation rules t (fragment (nav_of t doc) url) asker (nav_of t doc) url) reply.Done) (one r asker what.Sync (reply.Security 7))
+    (navigation_fits rules t (fragment (nav_of t doc) url) r asker (nav_of t doc) url a (a.well.below doc (live_below t asker doc live)), tt) (sync_fits rules t r asker a, tt))
     (sync_fits rules t r asker a, tt)
 decide-steps rules log fragment r (ask.Name asker doc name) all short a =
     let t : Tree = tree_of log in

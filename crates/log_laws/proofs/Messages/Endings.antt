@@ -82,7 +82,7 @@ decision_if : (log : List Entry) (asker : ℕ) (b : Bool) (c d : Decision) → A
 decision_if log asker true c d h k = h
 decision_if log asker false c d h k = k
 
-opened_asked : (rules : Rules) (log : List Entry) (fragment : Bool) (r asker : ℕ) (url : Option (List ℕ)) (name : List ℕ) (noopener user : Bool) (c : Choice)
+opened_asked : (rules : Rules) (log : List Entry) (fragment : ℕ → List ℕ → Bool) (r asker : ℕ) (url : Option (List ℕ)) (name : List ℕ) (noopener user : Bool) (c : Choice)
     → Asked log asker (open_chosen rules (tree_of log) fragment r asker url name noopener user c)
 unfolding Asked
 opened_asked rules log fragment r asker url name noopener user Nothing = sync_asked log r asker reply.Null
@@ -91,17 +91,17 @@ opened_asked rules log fragment r asker None name noopener user (Existing n) = o
 opened_asked rules log fragment r asker (Some url) name noopener user (Existing n) =
     let t : Tree = tree_of log in
     decision_if log asker (may_navigate t (nav_of t asker) n user)
-    (record { entries = opener_entry t r asker noopener n ++ by r asker (navigation rules t fragment asker n url) ∷ []; outcome = made_or_null noopener n }) (one r asker what.Sync (reply.Security 7))
-    (front_asked log r asker (nav_of t asker) n (noopener || n == nav_of t asker) (navigation rules t fragment asker n url) (navigation_asked rules t t fragment asker asker n url)) (sync_asked log r asker (reply.Security 7))
+    (record { entries = opener_entry t r asker noopener n ++ by r asker (navigation rules t (fragment n url) asker n url) ∷ []; outcome = made_or_null noopener n }) (one r asker what.Sync (reply.Security 7))
+    (front_asked log r asker (nav_of t asker) n (noopener || n == nav_of t asker) (navigation rules t (fragment n url) asker n url) (navigation_asked rules t t (fragment n url) asker asker n url)) (sync_asked log r asker (reply.Security 7))
 
-link_asked : (rules : Rules) (t : Tree) (fragment : Bool) (asker : ℕ) (url name : List ℕ) (noopener user : Bool) (c : Choice) → IsAsked t asker (link_chosen rules t fragment asker url name noopener user c)
+link_asked : (rules : Rules) (t : Tree) (fragment : ℕ → List ℕ → Bool) (asker : ℕ) (url name : List ℕ) (noopener user : Bool) (c : Choice) → IsAsked t asker (link_chosen rules t fragment asker url name noopener user c)
 unfolding IsAsked
 link_asked rules t fragment asker url name noopener user Nothing = tt
 link_asked rules t fragment asker url name noopener user New = window_asked rules t t asker asker name noopener (Some url)
 link_asked rules t fragment asker url name noopener user (Existing n) =
-    asked_if t asker (may_navigate t (nav_of t asker) n user) (navigation rules t fragment asker n url) what.Sync (λ may. navigation_asked rules t t fragment asker asker n url) tt
+    asked_if t asker (may_navigate t (nav_of t asker) n user) (navigation rules t (fragment n url) asker n url) what.Sync (λ may. navigation_asked rules t t (fragment n url) asker asker n url) tt
 
-decide_asked : (rules : Rules) (log : List Entry) (fragment : Bool) (r : ℕ) (q : Request) → Asked log (asker_of q) (decide rules (tree_of log) fragment r q)
+decide_asked : (rules : Rules) (log : List Entry) (fragment : ℕ → List ℕ → Bool) (r : ℕ) (q : Request) → Asked log (asker_of q) (decide rules (tree_of log) fragment r q)
 unfolding decide Asked IsAsked
 decide_asked rules log fragment r ask.Next = tt
 decide_asked rules log fragment r (ask.Sync asker) = (tt, tt)
@@ -112,8 +112,8 @@ decide_asked rules log fragment r (ask.Link asker url name noopener user) =
     (link_asked rules (tree_of log) fragment asker url name noopener user (choice (tree_of log) (nav_of (tree_of log) asker) name noopener user), tt)
 decide_asked rules log fragment r (ask.Go asker doc url user) =
     let t : Tree = tree_of log in
-    twice_asked log r asker (is_live t asker doc) (may_navigate t (nav_of t asker) (nav_of t doc) user) (navigation rules t fragment asker (nav_of t doc) url) reply.Done (reply.Security 7) reply.Done
-    (navigation_asked rules t t fragment asker asker (nav_of t doc) url)
+    twice_asked log r asker (is_live t asker doc) (may_navigate t (nav_of t asker) (nav_of t doc) user) (navigation rules t (fragment (nav_of t doc) url) asker (nav_of t doc) url) reply.Done (reply.Security 7) reply.Done
+    (navigation_asked rules t t (fragment (nav_of t doc) url) asker asker (nav_of t doc) url)
 decide_asked rules log fragment r (ask.Name asker doc name) =
     let t : Tree = tree_of log in
     twice_asked log r asker (is_live t asker doc) (same_domain t asker doc) (what.Name (nav_of t doc) name) reply.Done (reply.Security 8) reply.Done tt

@@ -1,9 +1,8 @@
 -- A message stays in its group.
 use Rattle.std.proofs.Common.{◌≡◌, ℕ, ◌<◌, ◌≤◌, ◌^◌, List, [], ◌∷◌, ◌++◌, length, Option, Some, None, Bool, true, false, refl, ap, sym, subst, ◌∙◌, if◌then◌else◌, arith, inl, inr}
-use Rattle.std.specs.Prelude.{◌==◌, ◌&&◌, nat_lt, nat_le, bytes_eq, codes}
+use Rattle.std.specs.Prelude.{nat_lt, nat_le, codes}
 use Rattle.std.specs.Option.{option_map_or}
 use Rattle.std.proofs.lemmas.Bool.{false≢true, cases_lt}
-use Rattle.std.proofs.lemmas.Bool.Decides.{eqb_tells}
 use Rattle.window_props.specs.declared.value.Value.{Value}
 use Rattle.window_props.specs.declared.value.Value.TheVariants as value
 use Rattle.origin_core.specs.declared.origin.Origin.{Origin}
@@ -30,6 +29,7 @@ use Rattle.coordinator_rules.specs.Decision.{Rules, rules_of, exchange, asker_of
 use Rattle.agent_laws.specs.Actors.{is_next}
 use Rattle.agent_laws.specs.Belonging.{Belongs, RegistersBelong}
 use Rattle.log_laws.specs.Messages.{IsAtItsOwn}
+use Rattle.agent_laws.proofs.Groups.Written.{written_belongs}
 use Rattle.agent_laws.proofs.Logs.Exchanges.{only_next}
 use Rattle.agent_laws.specs.Wellness.{IsWell}
 use Rattle.agent_laws.proofs.Groups.Well.{more_docs, admitted_well}
@@ -52,7 +52,7 @@ ArePostsNear : List Entry → Type 0
 ArePostsNear [] = Unit {0}
 ArePostsNear (e ∷ older) = (AreAdmitted (e ∷ older) → IsPostNear (tree_of older) e.what) × ArePostsNear older
 
-more_docs_there : (es log : List Entry) → (tree_of log).docs ≤ (tree_of (es ++ log)).docs
+pub more_docs_there : (es log : List Entry) → (tree_of log).docs ≤ (tree_of (es ++ log)).docs
 more_docs_there [] log = omega arith
 more_docs_there (e ∷ es) log =
     let one : (tree_of (es ++ log)).docs ≤ (tree_of (e ∷ es ++ log)).docs = subst (λ (t : Tree). (tree_of (es ++ log)).docs ≤ t.docs) (sym (tree_of_step e (es ++ log))) (more_docs (tree_of (es ++ log)) e) in
@@ -143,7 +143,7 @@ near_before k (e ∷ older) near = by_length (nat_le k (length older)) (near_bef
     by_length true before = before
     by_length false before = near
 
-admitted_before : (k : ℕ) (log : List Entry) → AreAdmitted log → AreAdmitted (prefix k log)
+pub admitted_before : (k : ℕ) (log : List Entry) → AreAdmitted log → AreAdmitted (prefix k log)
 unfolding prefix
 admitted_before k [] all = tt
 admitted_before k (e ∷ older) all = by_length (nat_le k (length older)) (admitted_before k older all.1)
@@ -159,17 +159,6 @@ posts_belong s log place e to from origin target body legal short at is =
     subst (IsPostNear (tree_of log)) is (near_at log (legal_near s log legal) (legal_admitted s log legal short) place e at)
 
 -- WHAT A MESSAGE WRITES
-
-written_belongs : (t : Tree) (d : ℕ) (name : List ℕ) (v : Value) (registers : ℕ → List ℕ → Value) → Belongs t d v → RegistersBelong t registers → RegistersBelong t (written d name v registers)
-unfolding written
-written_belongs t d name v registers b held = λ e other. elim (eqb_tells e d) as (λ _. Belongs t e (if (e == d) && bytes_eq other name then v else registers e other)) [
-  | inl p ↦ rw (p.0) (by_name e other (bytes_eq other name) p.1)
-  | inr p ↦ rw (p.0) (held e other)
-]
-  where
-    by_name : (e : ℕ) (other : List ℕ) (b : Bool) → e ≡ d → Belongs t e (if b then v else registers e other)
-    by_name e other true is = subst (λ (x : ℕ). Belongs t x v) (sym is) b
-    by_name e other false is = held e other
 
 message_belongs : (t : Tree) (d from : ℕ) (origin : Origin) (target : Target) (body : Data) (registers : ℕ → List ℕ → Value) → Belongs t d (value.Window from) → RegistersBelong t registers
     → RegistersBelong t (message_written d (what.Post d from origin target body) registers)

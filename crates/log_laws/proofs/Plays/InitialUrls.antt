@@ -20,7 +20,7 @@ use Rattle.single_agent.specs.LegalLog.{lost_entry, IsLegalLog, Started, Exchang
 use Rattle.single_agent.specs.Session.{starts_of, started, start_entry}
 use Rattle.coordinator_rules.specs.NextTask.{next_task}
 use Rattle.coordinator_rules.specs.Navigation.{may_navigate, may_close, is_in, Choice, Existing, New, Nothing, choice}
-use Rattle.coordinator_rules.specs.Decision.{Rules, rules_of, Decision, decide, exchange, by, one, navigation, made_or_null, opener_entry, or_sync, open_chosen, link_chosen, is_live, is_near, destination, goes_to, url_in, differs_in_fragment, is_fragment, task_decision}
+use Rattle.coordinator_rules.specs.Decision.{Rules, rules_of, Decision, decide, exchange, by, one, navigation, made_or_null, opener_entry, or_sync, open_chosen, link_chosen, is_live, is_near, is_in_fragment, task_decision}
 use Rattle.agent_laws.specs.Actors.{is_next}
 use Rattle.agent_laws.proofs.Logs.Exchanges.{only_next, decided_or_none}
 use Rattle.agent_laws.proofs.Logs.Entries.{entry, at_cases}
@@ -122,13 +122,11 @@ more log (e ∷ es) all f h = one_more (es ++ log) e all.0 f.0 (more log es all.
 -- DECISIONS
 
 -- what is a fragment navigation
-fragment_at : (t : Tree) (urls : ℕ → List ℕ) (q : Request) (n : ℕ) → destination t q ≡ Some n → is_fragment t urls q ≡ true → without_fragment (url_in q) ≡ without_fragment (urls (t.nav n).active)
-unfolding is_fragment
-fragment_at t urls q n to h =
+fragment_at : (t : Tree) (urls : ℕ → List ℕ) (n : ℕ) (url : List ℕ) → is_in_fragment t urls n url ≡ true → without_fragment url ≡ without_fragment (urls (t.nav n).active)
+unfolding is_in_fragment
+fragment_at t urls n url h =
     let now_url : List ℕ = urls (t.nav n).active in
-    let k : differs_in_fragment (url_in q) now_url ≡ true =
-    sym (ap (λ (o : Option ℕ). elim o as (λ _. Bool) [ None ↦ false | Some m ↦ differs_in_fragment (url_in q) (urls (t.nav m).active) ]) to) ∙ h in
-    (bytes_eq-Decides (without_fragment (url_in q)) (without_fragment now_url)).0 (both (is_some (fragment_of (url_in q))) (is_same_but_fragment (url_in q) now_url) k).1
+    (bytes_eq-Decides (without_fragment url) (without_fragment now_url)).0 (both (is_some (fragment_of url)) (is_same_but_fragment url now_url) h).1
 
 abbrev IsFragmentTo : List Entry → ℕ → Bool → List ℕ → Type 0
 IsFragmentTo log n fragment url = fragment ≡ true → without_fragment url ≡ without_fragment (url_of log ((tree_of log).nav n).active)
@@ -145,89 +143,60 @@ synced_so : (log : List Entry) (r asker n to : ℕ) (b : Bool) → AreFragmentsO
 synced_so log r asker n to true = (tt, tt)
 synced_so log r asker n to false = (tt, tt)
 
--- where the navigable may be navigated, it is the destination
-goes : (t : Tree) (asker n : ℕ) (user : Bool) (c : Choice) → c ≡ Existing n → may_navigate t (nav_of t asker) n user ≡ true → goes_to t (nav_of t asker) user c ≡ Some n
-goes t asker n user c is may = ap (goes_to t (nav_of t asker) user) is ∙ ap (λ (b : Bool). if b then Some n else None) may
-
-opened_so : (rules : Rules) (log : List Entry) (r asker : ℕ) (url : Option (List ℕ)) (name : List ℕ) (noopener user : Bool) (c : Choice) → choice (tree_of log) (nav_of (tree_of log) asker) name noopener user ≡ c
-    → AreFragmentsOf log (open_chosen rules (tree_of log) (is_fragment (tree_of log) (url_of log) (ask.Open asker url name noopener user)) r asker url name noopener user c).entries
-opened_so rules log r asker url name noopener user Nothing is = (tt, tt)
-opened_so rules log r asker url name noopener user New is = (tt, tt)
-opened_so rules log r asker None name noopener user (Existing n) is = synced_so log r asker n (nav_of (tree_of log) asker) (noopener || n == nav_of (tree_of log) asker)
-opened_so rules log r asker (Some url) name noopener user (Existing n) is = by_may (may_navigate t (nav_of t asker) n user) refl
-  where
-    t : Tree
-    t = tree_of log
-
-    f : Bool
-    f = is_fragment t (url_of log) (ask.Open asker (Some url) name noopener user)
-
-    by_may : (b : Bool) → may_navigate t (nav_of t asker) n user ≡ b
-        → AreFragmentsOf log (if b then record { entries = opener_entry t r asker noopener n ++ by r asker (navigation rules t f asker n url) ∷ []; outcome = made_or_null noopener n } else one r asker what.Sync (reply.Security 7)).entries
-    by_may true may =
-        front_so log r asker n (nav_of t asker) (noopener || n == nav_of t asker) (navigation rules t f asker n url)
-        (navigation_so rules log f asker n url (λ k. fragment_at t (url_of log) (ask.Open asker (Some url) name noopener user) n (goes t asker n user (choice t (nav_of t asker) name noopener user) is may) k))
-    by_may false may = (tt, tt)
-
-linked_so : (rules : Rules) (log : List Entry) (asker : ℕ) (url name : List ℕ) (noopener user : Bool) (c : Choice) → choice (tree_of log) (nav_of (tree_of log) asker) name noopener user ≡ c
-    → IsFragmentOf (url_of log) (link_chosen rules (tree_of log) (is_fragment (tree_of log) (url_of log) (ask.Link asker url name noopener user)) asker url name noopener user c)
-linked_so rules log asker url name noopener user Nothing is = tt
-linked_so rules log asker url name noopener user New is = tt
-linked_so rules log asker url name noopener user (Existing n) is = by_may (may_navigate t (nav_of t asker) n user) refl
-  where
-    t : Tree
-    t = tree_of log
-
-    f : Bool
-    f = is_fragment t (url_of log) (ask.Link asker url name noopener user)
-
-    by_may : (b : Bool) → may_navigate t (nav_of t asker) n user ≡ b → IsFragmentOf (url_of log) (if b then navigation rules t f asker n url else what.Sync)
-    by_may true may = navigation_so rules log f asker n url (λ k. fragment_at t (url_of log) (ask.Link asker url name noopener user) n (goes t asker n user (choice t (nav_of t asker) name noopener user) is may) k)
-    by_may false may = tt
-
-gone_so : (rules : Rules) (log : List Entry) (r asker doc : ℕ) (url : List ℕ) (user : Bool) → AreFragmentsOf log (decide rules (tree_of log) (is_fragment (tree_of log) (url_of log) (ask.Go asker doc url user)) r (ask.Go asker doc url user)).entries
-unfolding decide
-gone_so rules log r asker doc url user = by_tests (is_live t asker doc) refl (may_navigate t (nav_of t asker) (nav_of t doc) user) refl
-  where
-    t : Tree
-    t = tree_of log
-
-    f : Bool
-    f = is_fragment t (url_of log) (ask.Go asker doc url user)
-
-    by_tests : (a : Bool) → is_live t asker doc ≡ a → (b : Bool) → may_navigate t (nav_of t asker) (nav_of t doc) user ≡ b
-        → AreFragmentsOf log (if a then (if b then one r asker (navigation rules t f asker (nav_of t doc) url) reply.Done else one r asker what.Sync (reply.Security 7)) else one r asker what.Sync reply.Done).entries
-    by_tests true live true may = (
-      navigation_so rules log f asker (nav_of t doc) url
-          (λ k. fragment_at t (url_of log) (ask.Go asker doc url user) (nav_of t doc) (ap (λ (b : Bool). if b && may_navigate t (nav_of t asker) (nav_of t doc) user then Some (nav_of t doc) else None) live ∙ ap (λ (b : Bool). if b then Some (nav_of t doc) else None) may) k),
-      tt,
-    )
-    by_tests true live false may = (tt, tt)
-    by_tests false live b may = (tt, tt)
+-- the navigation that is decided
+decided_so : (rules : Rules) (log : List Entry) (asker n : ℕ) (url : List ℕ) → IsFragmentOf (url_of log) (navigation rules (tree_of log) (is_in_fragment (tree_of log) (url_of log) n url) asker n url)
+decided_so rules log asker n url = navigation_so rules log (is_in_fragment (tree_of log) (url_of log) n url) asker n url (λ k. fragment_at (tree_of log) (url_of log) n url k)
 
 so_if : (log : List Entry) (b : Bool) (v w : What) → IsFragmentOf (url_of log) v → IsFragmentOf (url_of log) w → IsFragmentOf (url_of log) (if b then v else w)
 so_if log true v w h k = h
 so_if log false v w h k = k
 
-open_so : (log : List Entry) (r asker : ℕ) (a b : Bool) (w : What) → IsFragmentOf (url_of log) w
-    → AreFragmentsOf log (if a then (if b then one r asker w reply.Done else one r asker what.Sync (reply.Security 8)) else one r asker what.Sync reply.Done).entries
-open_so log r asker true true w h = (h, tt)
-open_so log r asker true false w h = (tt, tt)
-open_so log r asker false b w h = (tt, tt)
+all_if : (log : List Entry) (b : Bool) (c d : Decision) → AreFragmentsOf log c.entries → AreFragmentsOf log d.entries → AreFragmentsOf log (if b then c else d).entries
+all_if log true c d h k = h
+all_if log false c d h k = k
 
-decide_so : (rules : Rules) (log : List Entry) (r : ℕ) (q : Request) → AreFragmentsOf log (decide rules (tree_of log) (is_fragment (tree_of log) (url_of log) q) r q).entries
+opened_so : (rules : Rules) (log : List Entry) (r asker : ℕ) (url : Option (List ℕ)) (name : List ℕ) (noopener user : Bool) (c : Choice)
+    → AreFragmentsOf log (open_chosen rules (tree_of log) (is_in_fragment (tree_of log) (url_of log)) r asker url name noopener user c).entries
+opened_so rules log r asker url name noopener user Nothing = (tt, tt)
+opened_so rules log r asker url name noopener user New = (tt, tt)
+opened_so rules log r asker None name noopener user (Existing n) = synced_so log r asker n (nav_of (tree_of log) asker) (noopener || n == nav_of (tree_of log) asker)
+opened_so rules log r asker (Some url) name noopener user (Existing n) =
+    let t : Tree = tree_of log in
+    let w : What = navigation rules t (is_in_fragment t (url_of log) n url) asker n url in
+    all_if log (may_navigate t (nav_of t asker) n user) (record { entries = opener_entry t r asker noopener n ++ by r asker w ∷ []; outcome = made_or_null noopener n }) (one r asker what.Sync (reply.Security 7))
+    (front_so log r asker n (nav_of t asker) (noopener || n == nav_of t asker) w (decided_so rules log asker n url)) (tt, tt)
+
+linked_so : (rules : Rules) (log : List Entry) (asker : ℕ) (url name : List ℕ) (noopener user : Bool) (c : Choice)
+    → IsFragmentOf (url_of log) (link_chosen rules (tree_of log) (is_in_fragment (tree_of log) (url_of log)) asker url name noopener user c)
+linked_so rules log asker url name noopener user Nothing = tt
+linked_so rules log asker url name noopener user New = tt
+linked_so rules log asker url name noopener user (Existing n) =
+    let t : Tree = tree_of log in
+    so_if log (may_navigate t (nav_of t asker) n user) (navigation rules t (is_in_fragment t (url_of log) n url) asker n url) what.Sync (decided_so rules log asker n url) tt
+
+-- what is done where two tests hold
+twice_so : (log : List Entry) (r asker : ℕ) (a b : Bool) (rule : ℕ) (w : What) → IsFragmentOf (url_of log) w
+    → AreFragmentsOf log (if a then (if b then one r asker w reply.Done else one r asker what.Sync (reply.Security rule)) else one r asker what.Sync reply.Done).entries
+twice_so log r asker true true rule w h = (h, tt)
+twice_so log r asker true false rule w h = (tt, tt)
+twice_so log r asker false b rule w h = (tt, tt)
+
+decide_so : (rules : Rules) (log : List Entry) (r : ℕ) (q : Request) → AreFragmentsOf log (decide rules (tree_of log) (is_in_fragment (tree_of log) (url_of log)) r q).entries
 unfolding decide
 decide_so rules log r ask.Next = tt
 decide_so rules log r (ask.Sync asker) = (tt, tt)
 decide_so rules log r (ask.Frame asker name flags url) = (tt, tt)
 decide_so rules log r (ask.Drop asker nav) = (so_if log (is_in nav (children_of (tree_of log) asker)) (what.Drop nav) what.Sync tt tt, tt)
-decide_so rules log r (ask.Open asker url name noopener user) = opened_so rules log r asker url name noopener user (choice (tree_of log) (nav_of (tree_of log) asker) name noopener user) refl
-decide_so rules log r (ask.Link asker url name noopener user) = (linked_so rules log asker url name noopener user (choice (tree_of log) (nav_of (tree_of log) asker) name noopener user) refl, tt)
-decide_so rules log r (ask.Go asker doc url user) = gone_so rules log r asker doc url user
+decide_so rules log r (ask.Open asker url name noopener user) = opened_so rules log r asker url name noopener user (choice (tree_of log) (nav_of (tree_of log) asker) name noopener user)
+decide_so rules log r (ask.Link asker url name noopener user) = (linked_so rules log asker url name noopener user (choice (tree_of log) (nav_of (tree_of log) asker) name noopener user), tt)
+decide_so rules log r (ask.Go asker doc url user) =
+    let t : Tree = tree_of log in
+    twice_so log r asker (is_live t asker doc) (may_navigate t (nav_of t asker) (nav_of t doc) user) 7 (navigation rules t (is_in_fragment t (url_of log) (nav_of t doc) url) asker (nav_of t doc) url)
+    (decided_so rules log asker (nav_of t doc) url)
 decide_so rules log r (ask.Name asker doc name) =
-    open_so log r asker (is_live (tree_of log) asker doc) (same_domain (tree_of log) asker doc) (what.Name (nav_of (tree_of log) doc) name) tt
+    twice_so log r asker (is_live (tree_of log) asker doc) (same_domain (tree_of log) asker doc) 8 (what.Name (nav_of (tree_of log) doc) name) tt
 decide_so rules log r (ask.Disown asker doc) =
-    open_so log r asker (is_live (tree_of log) asker doc) (same_domain (tree_of log) asker doc) (what.Opener (nav_of (tree_of log) doc) None) tt
+    twice_so log r asker (is_live (tree_of log) asker doc) (same_domain (tree_of log) asker doc) 8 (what.Opener (nav_of (tree_of log) doc) None) tt
 decide_so rules log r (ask.Close asker doc user) =
     (so_if log (is_live (tree_of log) asker doc && may_close (tree_of log) (nav_of (tree_of log) asker) (nav_of (tree_of log) doc) user) (what.Closing (nav_of (tree_of log) doc)) what.Sync tt tt, tt)
 decide_so rules log r (ask.Post asker doc target body) =

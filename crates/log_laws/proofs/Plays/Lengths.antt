@@ -6,7 +6,7 @@ use Rattle.std.proofs.lemmas.Bool.Decides.{nat_tests}
 use Rattle.tree_log.specs.declared.entry.Entry.{Entry}
 use Rattle.tree_log.specs.declared.entry.What.{What}
 use Rattle.tree_log.specs.declared.entry.What.TheVariants as what
-use Rattle.tree_log.specs.Tree.{Tree, tree_of, nav_of, home_of, origin_of, is_active, is, same_domain}
+use Rattle.tree_log.specs.Tree.{Tree, tree_of, nav_of, home_of, is_active, is, same_domain}
 use Rattle.agent_terms.specs.declared.session.Session.{Session}
 use Rattle.agent_terms.specs.declared.request.Request.{Request}
 use Rattle.agent_terms.specs.declared.request.Request.TheVariants as ask
@@ -55,25 +55,25 @@ short_sync : (r asker n to : ℕ) (b : Bool) → length (or_sync r asker (if b t
 short_sync r asker n to true = omega arith
 short_sync r asker n to false = omega arith
 
-short_opened : (rules : Rules) (t : Tree) (f : Bool) (r asker : ℕ) (url : Option (List ℕ)) (name : List ℕ) (noopener user : Bool) (c : Choice) → IsShort (open_chosen rules t f r asker url name noopener user c)
+short_opened : (rules : Rules) (t : Tree) (f : ℕ → List ℕ → Bool) (r asker : ℕ) (url : Option (List ℕ)) (name : List ℕ) (noopener user : Bool) (c : Choice) → IsShort (open_chosen rules t f r asker url name noopener user c)
 short_opened rules t f r asker url name noopener user Nothing = omega arith
 short_opened rules t f r asker url name noopener user New = omega arith
 short_opened rules t f r asker None name noopener user (Existing n) = short_sync r asker n (nav_of t asker) (noopener || n == nav_of t asker)
 short_opened rules t f r asker (Some url) name noopener user (Existing n) =
-    short_if (may_navigate t (nav_of t asker) n user) (record { entries = opener_entry t r asker noopener n ++ by r asker (navigation rules t f asker n url) ∷ []; outcome = made_or_null noopener n }) (one r asker what.Sync (reply.Security 7))
-    (short_front r asker n (nav_of t asker) (noopener || n == nav_of t asker) (navigation rules t f asker n url)) (omega arith)
+    short_if (may_navigate t (nav_of t asker) n user) (record { entries = opener_entry t r asker noopener n ++ by r asker (navigation rules t (f n url) asker n url) ∷ []; outcome = made_or_null noopener n }) (one r asker what.Sync (reply.Security 7))
+    (short_front r asker n (nav_of t asker) (noopener || n == nav_of t asker) (navigation rules t (f n url) asker n url)) (omega arith)
 
 short_twice : (r asker : ℕ) (a b : Bool) (w : What) (o p q : ReplyOutcome) → IsShort (if a then if b then one r asker w o else one r asker what.Sync p else one r asker what.Sync q)
 short_twice r asker true true w o p q = omega arith
 short_twice r asker true false w o p q = omega arith
 short_twice r asker false b w o p q = omega arith
 
-decide_short : (rules : Rules) (t : Tree) (f : Bool) (r : ℕ) (q : Request) → IsShort (decide rules t f r q)
+decide_short : (rules : Rules) (t : Tree) (f : ℕ → List ℕ → Bool) (r : ℕ) (q : Request) → IsShort (decide rules t f r q)
 unfolding decide
 decide_short rules t f r ask.Next = omega arith
 decide_short rules t f r (ask.Open asker url name noopener user) = short_opened rules t f r asker url name noopener user (choice t (nav_of t asker) name noopener user)
 decide_short rules t f r (ask.Go asker doc url user) =
-    short_twice r asker (is_live t asker doc) (may_navigate t (nav_of t asker) (nav_of t doc) user) (navigation rules t f asker (nav_of t doc) url) reply.Done (reply.Security 7) reply.Done
+    short_twice r asker (is_live t asker doc) (may_navigate t (nav_of t asker) (nav_of t doc) user) (navigation rules t (f (nav_of t doc) url) asker (nav_of t doc) url) reply.Done (reply.Security 7) reply.Done
 decide_short rules t f r (ask.Name asker doc name) =
     short_twice r asker (is_live t asker doc) (same_domain t asker doc) (what.Name (nav_of t doc) name) reply.Done (reply.Security 8) reply.Done
 decide_short rules t f r (ask.Disown asker doc) =

@@ -1,0 +1,2 @@
+-- Legal records on legal logs.
+pub mod Belonging
