@@ -9,7 +9,7 @@ use Rattle.std.specs.Option.{ForSome}
 use Rattle.tree_view.specs.declared.plain.rows.NavRow.{NavRow}
 use Rattle.tree_view.specs.declared.plain.rows.DocRow.{DocRow}
 use Rattle.tree_view.specs.Rows.{no_nav, no_doc, new_docs}
-use Rattle.tree_view.specs.Closed.{NavClosed, DocClosed, ParentsFirst}
+use Rattle.tree_view.specs.Closed.{NavClosed, DocClosed, ParentsFirst, ShowTheirOwn}
 
 wider : (n m k l : ℕ) → n ≤ k → m ≤ l → (row : NavRow) → NavClosed n m row → NavClosed k l row
 wider n m k l a b row c = record {
@@ -34,6 +34,7 @@ pub record AreClosed (navs : List NavRow) (docs : List DocRow) : Type 0 where
   pub navs_closed : All (NavClosed (length navs) (length docs)) navs
   pub docs_closed : All (DocClosed (length navs)) docs
   pub parents_first : ParentsFirst navs docs
+  pub show_their_own : ShowTheirOwn navs docs
 
 parents_kept : (navs : List NavRow) (docs more : List DocRow) (row : NavRow) → All (NavClosed (length navs) (length docs)) navs → All (DocClosed (length navs)) docs → ParentsFirst navs docs
     → ForSome row.made.embedder (λ d. d < length docs) → ParentsFirst (navs ++ row ∷ []) (docs ++ more)
@@ -57,12 +58,38 @@ parents_kept navs docs more row closed docs_closed first embedder n d lt e =
           omega arith
     ]
 
+own_kept : (navs : List NavRow) (docs more : List DocRow) (row : NavRow) (initial : DocRow) → All (NavClosed (length navs) (length docs)) navs → ShowTheirOwn navs docs
+    → row.active ≡ length docs → initial.nav ≡ length navs → ShowTheirOwn (navs ++ row ∷ []) (docs ++ initial ∷ more)
+own_kept navs docs more row initial closed own active nav n lt =
+    let count : length (navs ++ row ∷ []) ≡ length navs + 1 = length-append navs (row ∷ []) in
+    elim (eqb_tells n (length navs)) [
+      | inl p ↦
+          let last : get_or (navs ++ row ∷ []) n no_nav ≡ row = ap (λ k. get_or (navs ++ row ∷ []) k no_nav) p.1 ∙ get_or-append_seam navs row [] no_nav in
+          ap (λ (r : NavRow). (get_or (docs ++ initial ∷ more) r.active no_doc).nav) last
+          ∙ ap (λ k. (get_or (docs ++ initial ∷ more) k no_doc).nav) active
+          ∙ ap (λ (r : DocRow). r.nav) (get_or-append_seam docs initial more no_doc)
+          ∙ nav ∙ sym p.1
+      | inr p ↦
+          let before : n < length navs = omega (arith, p.1) in
+          let old : get_or (navs ++ row ∷ []) n no_nav ≡ get_or navs n no_nav = get_or-append navs (row ∷ []) no_nav n before in
+          ap (λ (r : NavRow). (get_or (docs ++ initial ∷ more) r.active no_doc).nav) old
+          ∙ ap (λ (r : DocRow). r.nav) (get_or-append docs (initial ∷ more) no_doc (get_or navs n no_nav).active (closed n no_nav before).active)
+          ∙ own n before
+    ]
+
+-- the same, for the documents that come with it
+own_kept_new : (navs : List NavRow) (docs : List DocRow) (row : NavRow) (initial : DocRow) (loaded : Option DocRow) → All (NavClosed (length navs) (length docs)) navs → ShowTheirOwn navs docs
+    → row.active ≡ length docs → initial.nav ≡ length navs → ShowTheirOwn (navs ++ row ∷ []) (docs ++ new_docs initial loaded)
+own_kept_new navs docs row initial None closed own active nav = own_kept navs docs [] row initial closed own active nav
+own_kept_new navs docs row initial (Some loaded) closed own active nav = own_kept navs docs (loaded ∷ []) row initial closed own active nav
+
 pub closed_more : (navs : List NavRow) (docs : List DocRow) (row : NavRow) (initial : DocRow) (loaded : Option DocRow)
     → All (NavClosed (length navs) (length docs)) navs → All (DocClosed (length navs)) docs → ParentsFirst navs docs
     → NavClosed (length navs + 1) (length docs + length (new_docs initial loaded)) row
     → ForSome row.made.embedder (λ d. d < length docs) → initial.nav ≡ length navs → ForSome loaded (λ d. d.nav ≡ length navs)
+    → ShowTheirOwn navs docs → row.active ≡ length docs
     → AreClosed (navs ++ row ∷ []) (docs ++ new_docs initial loaded)
-closed_more navs docs row initial loaded closed docs_closed first row_closed embedder initial_nav loaded_nav =
+closed_more navs docs row initial loaded closed docs_closed first row_closed embedder initial_nav loaded_nav own active =
     let more = new_docs initial loaded in
     let count : length (navs ++ row ∷ []) ≡ length navs + 1 = length-append navs (row ∷ []) in
     let docs_count : length (docs ++ more) ≡ length docs + length more = length-append docs more in
@@ -74,4 +101,5 @@ closed_more navs docs row initial loaded closed docs_closed first row_closed emb
       docs_closed = subst (λ (n : ℕ). All (DocClosed n) (docs ++ more)) (sym count)
           (All-append (DocClosed (length navs + 1)) docs more (docs_wider (length navs) (length navs + 1) (omega arith) docs docs_closed) (new_docs_closed (length navs) initial loaded initial_nav loaded_nav));
       parents_first = parents_kept navs docs more row closed docs_closed first embedder;
+      show_their_own = own_kept_new navs docs row initial loaded closed own active initial_nav;
     }

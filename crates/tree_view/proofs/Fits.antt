@@ -10,7 +10,7 @@ use Rattle.tree_log.specs.declared.entry.Load.{Load}
 use Rattle.tree_log.specs.declared.entry.What.{What}
 use Rattle.tree_log.specs.declared.entry.What.TheVariants.{Open, Frame, Drop, Name, Begin, Commit, Fragment, Opener, Closing, Gone}
 use Rattle.tree_log.specs.Facts.{doc_of_load}
-use Rattle.tree_log.specs.Tree.{Tree}
+use Rattle.tree_log.specs.Tree.{Tree, nav_of}
 use Rattle.tree_log.specs.Admits.{has, has_if_any, is_next, is_next_load, is_documents, admits, admits_what}
 use Rattle.tree_log.proofs.Admitted.{both}
 use Rattle.tree_view.specs.declared.plain.rows.NewRows.{NewRows}
@@ -61,12 +61,12 @@ opener_fits t e i to is h =
 pub fragment_fits : (t : Tree) (e : Entry) (i d : ℕ) (url : List ℕ) → e.what ≡ Fragment i d url → admits t e ≡ true → d < t.docs
 fragment_fits t e i d url is h = last_there _ t.docs d (of_kind t e (Fragment i d url) is h)
 
-pub commit_fits : (t : Tree) (e : Entry) (i d b : ℕ) → e.what ≡ Commit i d b → admits t e ≡ true → (i < t.navs) × (d < t.docs)
+pub commit_fits : (t : Tree) (e : Entry) (i d b : ℕ) → e.what ≡ Commit i d b → admits t e ≡ true → (i < t.navs) × (d < t.docs) × (nav_of t d ≡ i)
 commit_fits t e i d b is h =
     let four = both _ _ (of_kind t e (Commit i d b) is h) in
     let three = both _ _ four.0 in
     let two = both _ (has t.docs d) three.0 in
-    (last_there _ t.navs i two.0, below d t.docs two.1)
+    (last_there _ t.navs i two.0, below d t.docs two.1, same (nav_of t d) i three.1)
 
 next : (count n : ℕ) → is_next count n ≡ true → (count ≡ n) × (n < 4294967295)
 next count n h = let a = both _ _ h in (sym (same n count a.0), below n 4294967295 a.1)
@@ -182,6 +182,7 @@ fits_what t by actor (Open i d g h o name opener flags navigator load) new is a 
         group = refl;
       };
       embedder = λ x e. absurd cc;
+      active = sym m.doc;
       initial = sym m.nav;
       loaded = loaded_nav t.navs i load m.nav;
       not_loaded = refl;
@@ -206,6 +207,7 @@ fits_what t by actor (Frame i d h o name flags load) new is a =
         group = rw (acting.0) refl;
       };
       embedder = acting.1;
+      active = sym m.doc;
       initial = sym m.nav;
       loaded = loaded_nav t.navs i load m.nav;
       not_loaded = refl;

@@ -2,14 +2,7 @@
 use Rattle.std.proofs.Common.{◌≡◌, ℕ, suc, ◌+◌, ◌<◌, List, ◌∷◌, ◌++◌, Some, Bool, true, false, cond, not, refl, ap, sym, ◌∙◌, bytes_eq, ◌&&◌, length, drop, get_or, find, filter, add-one}
 use Rattle.std.proofs.Math.Seq.{drop-cons}
 use Rattle.tree_view.specs.declared.plain.rows.NavRow.{NavRow}
-use Rattle.tree_view.specs.Rows.{no_nav, numbers_of, is_embedded_by, is_kid, if_so}
-
-abbrev stays : List NavRow → ℕ → Bool
-stays navs n = not (get_or navs n no_nav).dropped
-
--- the children of d from row i on
-abbrev pub kids_from : List NavRow → ℕ → ℕ → List ℕ
-kids_from navs d i = filter (stays navs) (numbers_of (is_embedded_by d) i (drop i navs))
+use Rattle.tree_view.specs.Rows.{no_nav, numbers_of, is_embedded_by, is_kid, if_so, stays, kids_from}
 
 one : (p : ℕ → Bool) (i : ℕ) (a b : Bool) (rest : List ℕ) → p i ≡ not b → filter p (if_so a i ++ rest) ≡ cond (a && not b) (i ∷ filter p rest) (filter p rest)
 one p i false b rest h = refl

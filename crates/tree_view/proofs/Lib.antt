@@ -7,3 +7,5 @@ pub mod Walk
 pub mod Kids
 pub mod Loads
 pub mod Rewritten
+pub mod Siblings
+pub mod GrownRows

@@ -26,7 +26,7 @@ same_chain t ordered (suc j) (suc k) n hj hk h =
     ∙ ap (λ r. n ∷ r) (step_rest t j k (embedder t n) (λ d is. let below : nav_of t d < n = ordered n d h is in same_chain t ordered j k (nav_of t d) (omega arith) (omega arith) (omega arith)))
     ∙ sym (unfold_chain t k n (embedder t n))
 
-abbrev chain_above : Tree → Option ℕ → List ℕ
+abbrev pub chain_above : Tree → Option ℕ → List ℕ
 chain_above t None = []
 chain_above t (Some d) = chain t (nav_of t d)
 

@@ -4,3 +4,4 @@ pub mod Closed
 pub mod Shown
 pub mod Ordered
 pub mod Committing
+pub mod Grown

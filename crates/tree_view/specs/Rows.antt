@@ -1,5 +1,5 @@
 -- What the rows of a view say: the tree, and the URL of each document.
-use Rattle.std.specs.Prelude.{ℕ, suc, ◌+◌, List, [], ◌∷◌, ◌++◌, length, get_or, codes, Option, Some, None, Bool, true, false, not, ◌&&◌, ◌==◌, is_some, if◌then◌else◌}
+use Rattle.std.specs.Prelude.{ℕ, suc, ◌+◌, List, [], ◌∷◌, ◌++◌, length, get_or, drop, filter, codes, Option, Some, None, Bool, true, false, not, ◌&&◌, ◌==◌, is_some, if◌then◌else◌}
 use Rattle.origin_core.specs.declared.origin.Origin.{Origin}
 use Rattle.origin_core.specs.declared.origin.Origin.TheVariants.{Opaque}
 use Rattle.tree_log.specs.declared.entry.Load.{Load}
@@ -119,3 +119,10 @@ grown groups (Some group) = if group == groups then groups + 1 else groups
 -- whether a row is of a navigable that d embeds and that wasn't dropped
 abbrev pub is_kid : ℕ → NavRow → Bool
 is_kid d row = is row.made.embedder d && not row.dropped
+
+abbrev pub stays : List NavRow → ℕ → Bool
+stays navs n = not (get_or navs n no_nav).dropped
+
+-- the children of d from row i on
+abbrev pub kids_from : List NavRow → ℕ → ℕ → List ℕ
+kids_from navs d i = filter (stays navs) (numbers_of (is_embedded_by d) i (drop i navs))

@@ -1,8 +1,10 @@
 ghost use Rattle.std.specs.Prelude.{◌≡◌, ◌<◌, ℕ, List, length, slice_get, All, Some, OnOk, OnErr, IfSome, IsTrue};
 ghost use Rattle.tree_log.specs.Tree.{Tree, tree_after, nav_of, origin_of, home_of, is_active, is_discarded, parent_of, top_level_of, is_top_level, group_of, children_of, same_domain};
 ghost use Rattle.tree_log.specs.NamedChildren.{child_named};
+ghost use Rattle.tree_log.specs.Siblings.{next_sibling};
 ghost use Rattle.tree_log.specs.Urls.{urls_after};
 ghost use Rattle.tree_log.specs.Admits.{admits};
+ghost use Rattle.tree_view.specs.Grown.{IsGrown};
 
 use crate::admits::can_follow;
 use origin_core::{Flags, Origin, PageUrl};
@@ -24,9 +26,10 @@ pub trait View {
     fn len(&self) -> u32
         ensures { result ≡ (tree self.now).len };
 
-    /// The number of navigables.
+    /// The number of navigables: the tree grew by one at a time, so a parent has a smaller number than its children.
     fn navs(&self) -> u32
-        ensures { result ≡ (tree self.now).navs };
+        ensures value { result ≡ (tree self.now).navs }
+        ensures grown { IsGrown (tree self.now) };
 
     /// The number of documents.
     fn docs(&self) -> u32
@@ -106,6 +109,12 @@ pub trait View {
         requires { doc < (tree self.now).docs }
         ensures value { result ≡ child_named (tree self.now) doc name.now }
         ensures within { IfSome result (λ child. child < (tree self.now).navs) };
+
+    /// The next child of the same parent: none for a last child, a top-level navigable and one that was discarded.
+    fn next_sibling(&self, nav: u32) -> Option<u32>
+        requires { nav < (tree self.now).navs }
+        ensures value { result ≡ next_sibling (tree self.now) nav }
+        ensures within { IfSome result (λ next. next < (tree self.now).navs) };
 
     /// The target name of a navigable.
     fn name(&self, nav: u32) -> &str

@@ -1,10 +1,12 @@
 // The children of a document, looked for among all navigables.
-ghost use Rattle.std.specs.Prelude.{◌≡◌, ◌<◌, ◌&&◌, length, slice_get, bytes_eq, IfSome};
+ghost use Rattle.std.specs.Prelude.{◌≡◌, ◌<◌, ◌≤◌, ◌&&◌, length, get_or, slice_get, bytes_eq, IfSome};
 ghost use Rattle.tree_log.specs.NamedChildren as named;
 ghost use Rattle.tree_log.specs.NamedChildren.{first_of_name};
+ghost use Rattle.tree_log.specs.Siblings as siblings;
+ghost use Rattle.tree_log.specs.Siblings.{first_if_any};
 ghost use Rattle.tree_log.specs.Tree as spec;
 ghost use Rattle.tree_log.specs.Tree.{children_of};
-ghost use Rattle.tree_view.specs.Rows.{is_kid};
+ghost use Rattle.tree_view.specs.Rows.{no_nav, is_kid, kids_from};
 ghost use Rattle.tree_view.specs.Shown.{tree_shown, if_same_origin};
 
 use crate::plain::rows::{NavRow, PlainView};
@@ -70,6 +72,48 @@ impl PlainView {
                     return Some(i as u32);
                 }
                 left -= 1;
+            }
+        }
+        None
+    }
+
+    /// The next child of the same parent.
+    pub(crate) fn find_next(&self, nav: u32) -> Option<u32>
+        requires { nav < length self.now.navs.items }
+        ensures value { result ≡ siblings.next_sibling (tree_shown self.now) nav }
+        ensures within { IfSome result (λ next. next < length self.now.navs.items) }
+    {
+        match self.embedder(nav) {
+            None => None,
+            Some(doc) => {
+                if self.is_child_of(nav, doc) {
+                    self.first_child_from(doc, nav as usize + 1)
+                } else {
+                    None
+                }
+            }
+        }
+    }
+
+    // Whether a navigable is among the children of a document.
+    fn is_child_of(&self, nav: u32, doc: u32) -> bool
+        requires nav { nav < length self.now.navs.items }
+        requires doc { doc < length self.now.docs.items }
+        ensures { result ≡ (is_kid doc (get_or self.now.navs.items nav no_nav) && spec.is_active (tree_shown self.now) doc) }
+    {
+        is_child(&self.navs[nav as usize], doc) && self.is_active_doc(doc)
+    }
+
+    // The first child of an active document with this number or a greater one.
+    #[tactic(auto, using(crate::proofs::Kids::kids_step))]
+    fn first_child_from(&self, doc: u32, from: usize) -> Option<u32>
+        requires { from ≤ length self.now.navs.items }
+        ensures value { result ≡ first_if_any (kids_from self.now.navs.items doc from) }
+        ensures within { IfSome result (λ next. next < length self.now.navs.items) }
+    {
+        for i in from..self.navs.len() {
+            if is_child(&self.navs[i], doc) {
+                return Some(i as u32);
             }
         }
         None

@@ -1,5 +1,5 @@
 ghost use Rattle.std.specs.Prelude.{◌≡◌, ◌<◌, All, length};
-ghost use Rattle.tree_view.specs.Closed.{NavClosed, DocClosed, ParentsFirst};
+ghost use Rattle.tree_view.specs.Closed.{NavClosed, DocClosed, ParentsFirst, ShowTheirOwn};
 ghost use Rattle.tree_view.specs.Rows.{numbers_of, is_loaded};
 
 use origin_core::{Flags, Origin, PageUrl};
@@ -65,5 +65,6 @@ pub struct PlainView {
     ghost navs_closed: { All (NavClosed (length navs.items) (length docs.items)) navs.items },
     ghost docs_closed: { All (DocClosed (length navs.items)) docs.items },
     ghost parents_first: { ParentsFirst navs.items docs.items },
+    ghost show_their_own: { ShowTheirOwn navs.items docs.items },
     ghost loads_listed: { loads.items ≡ numbers_of is_loaded 0 docs.items },
 }

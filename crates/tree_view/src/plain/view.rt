@@ -106,6 +106,10 @@ impl View for PlainView {
         self.find_named(doc, name)
     }
 
+    fn next_sibling(&self, nav: u32) -> Option<u32> {
+        self.find_next(nav)
+    }
+
     fn name(&self, nav: u32) -> &str {
         self.navs[nav as usize].name.as_str()
     }

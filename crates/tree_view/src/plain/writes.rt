@@ -131,6 +131,7 @@ impl PlainView {
     pub(crate) fn write_commit(&mut self, nav: u32, doc: u32)
         requires nav { nav < length self.old.navs.items }
         requires doc { doc < length self.old.docs.items }
+        requires own { (get_or self.old.docs.items doc no_doc).nav ≡ nav }
         requires room { self.old.len < 4294967295 }
         ensures navs { self.new.navs.items ≡ set self.old.navs.items nav (record (get_or self.old.navs.items nav no_nav) { active = doc }) }
         ensures docs { self.new.docs.items ≡ set self.old.docs.items doc (record (get_or self.old.docs.items doc no_doc) { been_active = true }) }
@@ -155,6 +156,7 @@ impl PlainView {
         requires nav { nav < length self.old.navs.items }
         requires room { self.old.len < 4294967295 }
         requires doc { doc < length self.old.docs.items }
+        requires own { (get_or self.old.docs.items doc no_doc).nav ≡ nav }
         ensures navs { self.new.navs.items ≡ set self.old.navs.items nav (record (get_or self.old.navs.items nav no_nav) { active = doc }) }
         ensures docs { self.new.docs.items ≡ self.old.docs.items }
         ensures groups { self.new.groups ≡ self.old.groups }

@@ -38,6 +38,9 @@ write_commit-requires-clause-nav c = (commit_fits (tree_shown c.args.self.now) c
 pub write_commit-requires-clause-doc : goal.write_commit-requires-clause-doc
 write_commit-requires-clause-doc c = (commit_fits (tree_shown c.args.self.now) c.args.entry.now c.in-Commit.nav c.in-Commit.doc c.in-Commit.begin c.in-Commit.is c.requires.admitted).1
 
+pub write_commit-requires-clause-own : goal.write_commit-requires-clause-own
+write_commit-requires-clause-own c = (commit_fits (tree_shown c.args.self.now) c.args.entry.now c.in-Commit.nav c.in-Commit.doc c.in-Commit.begin c.in-Commit.is c.requires.admitted).2
+
 pub write_commit-requires-clause-room : goal.write_commit-requires-clause-room
 write_commit-requires-clause-room c = room (tree_shown c.args.self.now) c.args.entry.now c.requires.admitted
 

@@ -1,5 +1,5 @@
 use Rattle.std.proofs.Common.{◌≡◌, ◌+◌, ◌≤◌, length}
-use Rattle.tree_view.proofs.Kids.{kids_from}
+use Rattle.tree_view.specs.Rows.{kids_from}
 use Rattle.tree_view.proofs.plain.rows.PlainView.count_children.Given as goal
 
 abbrev pub invariant-loop-row : goal.invariant-loop-row

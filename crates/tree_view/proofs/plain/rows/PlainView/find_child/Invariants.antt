@@ -1,5 +1,5 @@
 use Rattle.std.proofs.Common.{◌≡◌, slice_get}
-use Rattle.tree_view.proofs.Kids.{kids_from}
+use Rattle.tree_view.specs.Rows.{kids_from}
 use Rattle.tree_view.proofs.plain.rows.PlainView.find_child.Given as goal
 
 abbrev pub invariant-loop-i : goal.invariant-loop-i

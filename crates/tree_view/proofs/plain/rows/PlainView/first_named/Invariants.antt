@@ -1,5 +1,6 @@
 use Rattle.std.proofs.Common.{◌≡◌, find}
-use Rattle.tree_view.proofs.Kids.{kids_from, has_name}
+use Rattle.tree_view.specs.Rows.{kids_from}
+use Rattle.tree_view.proofs.Kids.{has_name}
 use Rattle.tree_view.proofs.plain.rows.PlainView.first_named.Given as goal
 
 abbrev pub invariant-loop-i : goal.invariant-loop-i

@@ -1,0 +1,5 @@
+pub mod Upward
+pub mod Openers
+pub mod Children
+pub mod Walked
+pub mod Elsewhere
