@@ -1,6 +1,7 @@
 //! The plain words of the agent: steps and their operations, requests and replies, outcomes, acts, pages and sessions.
 //!
-//! Nothing here runs. Definitions, texts and frames all speak of these types.
+//! Definitions, texts and frames all speak of these types. Nothing here runs but what spells the names of steps and rules;
+//! `specs/Limits` has the limits of sessions and plays.
 #![tactic(auto)]
 
 mod act;

@@ -1,3 +1,6 @@
+ghost use Rattle.std.specs.Prelude.{◌≡◌};
+ghost use Rattle.agent_terms.specs.Texts.{rule_text};
+
 use origin_core::PageUrl;
 use plain_data::{Data, Items, Text};
 use tree_log::Target;
@@ -22,6 +25,25 @@ pub enum Rule {
     S7,
     /// The document isn't same origin-domain with that which it would change.
     S8,
+}
+
+impl Rule {
+    /// The rule as records spell it: `S1` to `S8`. It takes no memory.
+    #[tactic(auto, unfolding(crate::specs::Texts::rule_text))]
+    pub fn text(self) -> &'static str
+        ensures { result.now ≡ rule_text self }
+    {
+        match self {
+            Rule::S1 => "S1",
+            Rule::S2 => "S2",
+            Rule::S3 => "S3",
+            Rule::S4 => "S4",
+            Rule::S5 => "S5",
+            Rule::S6 => "S6",
+            Rule::S7 => "S7",
+            Rule::S8 => "S8",
+        }
+    }
 }
 
 /// Whether an operation is allowed.

@@ -1,3 +1,6 @@
+ghost use Rattle.std.specs.Prelude.{◌≡◌};
+ghost use Rattle.agent_terms.specs.Texts.{op_text, op_named};
+
 use plain_data::{Data, Text};
 use window_props::Key;
 
@@ -134,4 +137,62 @@ pub enum OpName {
     Drop,
     Open,
     Link,
+}
+
+const ALL_OPS: [OpName; 18] = [
+    OpName::Let,
+    OpName::Get,
+    OpName::Has,
+    OpName::Describe,
+    OpName::Keys,
+    OpName::Proto,
+    OpName::SetProto,
+    OpName::Extensible,
+    OpName::Prevent,
+    OpName::Set,
+    OpName::Define,
+    OpName::Delete,
+    OpName::Call,
+    OpName::Sync,
+    OpName::Frame,
+    OpName::Drop,
+    OpName::Open,
+    OpName::Link,
+];
+
+impl OpName {
+    /// The name as sessions and records spell it. It takes no memory.
+    #[tactic(auto, unfolding(crate::specs::Texts::op_text))]
+    pub fn text(self) -> &'static str
+        ensures { result.now ≡ op_text self }
+    {
+        match self {
+            OpName::Let => "let",
+            OpName::Get => "get",
+            OpName::Has => "has",
+            OpName::Describe => "describe",
+            OpName::Keys => "keys",
+            OpName::Proto => "proto",
+            OpName::SetProto => "setproto",
+            OpName::Extensible => "extensible",
+            OpName::Prevent => "prevent",
+            OpName::Set => "set",
+            OpName::Define => "define",
+            OpName::Delete => "delete",
+            OpName::Call => "call",
+            OpName::Sync => "sync",
+            OpName::Frame => "frame",
+            OpName::Drop => "drop",
+            OpName::Open => "open",
+            OpName::Link => "link",
+        }
+    }
+
+    /// The step that a text names; `None` exactly where no step has the text as its name. It takes no memory.
+    #[tactic(auto, unfolding(crate::specs::Texts::op_named))]
+    pub fn named(text: &str) -> Option<OpName>
+        ensures { result ≡ op_named text.now }
+    {
+        ALL_OPS.iter().copied().find(|op| op.text() == text)
+    }
 }

@@ -1,5 +1,6 @@
 ghost use Rattle.std.specs.Prelude.{◌≡◌, ◌≤◌, ◌<◌, ◌+◌, length, take, IfOk, OnOk, IfErr};
 ghost use Rattle.std.specs.Option.{option_copied};
+ghost use Rattle.plain_data.specs.DataLimits.{most_depth, most_size};
 ghost use Rattle.link_fields.specs.Field.{Gives};
 ghost use Rattle.link_fields.specs.Values as values;
 ghost use Rattle.link_fields.specs.Skipping as spec;
@@ -10,6 +11,11 @@ use crate::texts::read_str;
 use crate::values::{read_key, read_value, read_whole};
 use plain_data::Data;
 use std::alloc::Global;
+
+// How deep data nests at most, and how many bytes it takes.
+pub(crate) const MAX_DEPTH: usize = 16;
+
+const MAX_SIZE: usize = 4096;
 
 /// A list or a record of which parts are still to come.
 #[derive(Clone, Copy, Drop)]
@@ -127,14 +133,14 @@ fn skip_part<'a>(
 
 /// The bytes behind data of any depth.
 pub(crate) fn skip_value(alloc: Global, bytes: &[u8]) -> Result<&[u8], ReadError>
-    ensures { Gives (λ r. r.now) result (spec.rest_of ((values.value (16 + length bytes.now)).read bytes.now)) }
+    ensures { Gives (λ r. r.now) result (spec.rest_of ((values.value (most_depth + length bytes.now)).read bytes.now)) }
 {
     let mut stack: Vec<Open> = Vec::new(alloc);
     stack.push(Open {
         left: 1,
         in_record: false,
         before: None,
-        depth: 16 + bytes.len(),
+        depth: MAX_DEPTH + bytes.len(),
     })?;
     let mut rest = bytes;
     while let Some(top) = stack.pop() {
@@ -145,14 +151,14 @@ pub(crate) fn skip_value(alloc: Global, bytes: &[u8]) -> Result<&[u8], ReadError
     Ok(rest)
 }
 
-// The first 4,096 bytes, or all where there are fewer.
+// As many bytes as data has at most, or all where there are fewer.
 fn front_of(bytes: &[u8]) -> &[u8]
-    ensures { result.now ≡ take 4096 bytes.now }
+    ensures { result.now ≡ take most_size bytes.now }
 {
-    if bytes.len() <= 4096 {
+    if bytes.len() <= MAX_SIZE {
         return bytes;
     }
-    let (front, _) = bytes.split_at(4096);
+    let (front, _) = bytes.split_at(MAX_SIZE);
     front
 }
 
@@ -162,7 +168,7 @@ pub fn read_data(alloc: Global, bytes: &[u8]) -> Result<(Data, &[u8]), ReadError
     ensures { Gives (λ x. (x.0, x.1.now)) result (spec.data_field.read bytes.now) }
 {
     let front = front_of(bytes);
-    match read_value(alloc, 16, front) {
+    match read_value(alloc, MAX_DEPTH, front) {
         Ok((value, rest)) => {
             let (_, behind) = bytes.split_at(front.len() - rest.len());
             Ok((value, behind))

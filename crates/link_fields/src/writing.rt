@@ -6,6 +6,7 @@ ghost use Rattle.link_fields.specs.Values as values;
 ghost use Rattle.link_fields.specs.Skipping as skipping;
 ghost use Rattle.link_fields.specs.Origins as origins;
 
+use crate::skipping::MAX_DEPTH;
 use origin_core::{Flags, Origin, PageUrl, Scheme, TupleOrigin};
 use plain_data::{Data, Text};
 use std::alloc::AllocError;
@@ -223,9 +224,9 @@ fn put_members(out: &mut Vec<u8>, depth: usize, members: &[(Text, Data)]) -> Res
     Ok(())
 }
 
-/// Adds data. Of data deeper than 16 levels it leaves out what is deeper.
+/// Adds data. Of data that nests too deep it leaves out what is deeper.
 pub fn put_data(out: &mut Vec<u8>, value: &Data) -> Result<(), AllocError>
     ensures { OnOk result (out.new.items ≡ out.old.items ++ skipping.data_field.spell value.now) }
 {
-    put_value(out, 16, value)
+    put_value(out, MAX_DEPTH, value)
 }

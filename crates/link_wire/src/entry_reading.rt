@@ -12,6 +12,9 @@ use origin_core::Flags;
 use std::alloc::Global;
 use tree_log::{Entry, What};
 
+// How many entries a log has at most, but for the losses of renderers. It bounds no answer here, but the room that is made.
+const MOST_ENTRIES: usize = 20_000;
+
 fn read_open<'a>(
     alloc: Global,
     last: &mut LastOrigin,
@@ -252,7 +255,7 @@ pub(crate) fn read_entries(
     ensures { Gives (λ x. (x.0.items, x.1.now)) result (items_at spec.entry.read count bytes.now) }
 {
     // Room for as many as so many bytes mostly spell, and never for more than a log has.
-    let room = (count as usize).min(bytes.len() / 16).min(20000);
+    let room = (count as usize).min(bytes.len() / 16).min(MOST_ENTRIES);
     let mut entries = Vec::with_capacity(alloc, room)?;
     let mut last = LastOrigin::new(alloc);
     let mut rest = bytes;

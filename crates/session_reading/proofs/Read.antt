@@ -1,5 +1,5 @@
 -- What was read, from the value that a reader gives.
-use Rattle.std.proofs.Common.{inl, inr, ◌≡◌, ◌⊎◌, ℕ, ◌+◌, ◌≤◌, List, [], ◌∷◌, ◌++◌, length, Bool, true, false, Some, None, Ok, Err, nat_le, refl, arith, length-append}
+use Rattle.std.proofs.Common.{inl, inr, ◌≡◌, ◌⊎◌, ℕ, ◌+◌, ◌≤◌, List, [], ◌∷◌, ◌++◌, length, Bool, true, false, Some, None, Ok, Err, nat_le, refl, ap, arith, length-append}
 use Rattle.std.specs.Prelude.{Option, if◌then◌else◌, ◌&&◌, option_and_then}
 use Rattle.std.proofs.lemmas.Bool.Decides.{nat_tests}
 use Rattle.serde_json.specs.Data.{Items, no_items, item}
@@ -13,6 +13,7 @@ use Rattle.session_reading.specs.Names.{text_of}
 use Rattle.session_reading.specs.Refusing.{Outcome, ◌>>=◌, under, missing, wrong_kind, out_of_range}
 use Rattle.plain_data.specs.DataLimits.{most_text}
 use Rattle.session_reading.specs.Reading.{Json, or_refuse, natural, whole, text, each, any_list, list_of, field, field_or, optional, field_from}
+use Rattle.session_reading.specs.Forms.{Fields, knowing, and_known, read_field, read_field_or, read_optional}
 
 -- STEPS OF A READER
 
@@ -47,7 +48,7 @@ from_ok read (Some j) a e = (j, e)
 from_ok read None a e = absurd (let bad : ⊥ = cc in bad)
 
 -- the field's value was read
-pub field_ok : {A : Type 0} (name : Name) (read : Json → Outcome A) (j : Json) (a : A) → field name read j ≡ Ok a → (held : Json) × (read held ≡ Ok a)
+field_ok : {A : Type 0} (name : Name) (read : Json → Outcome A) (j : Json) (a : A) → field name read j ≡ Ok a → (held : Json) × (read held ≡ Ok a)
 unfolding field
 field_ok name read j a e = from_ok read (get (text_of name) j) a (under_ok (Named (text_of name)) _ a e)
 
@@ -55,7 +56,7 @@ from_or_ok : {A : Type 0} (absent : A) (read : Json → Outcome A) (found : Opti
 from_or_ok absent read (Some j) a e = inr (j, e)
 from_or_ok absent read None a e = inl cc
 
-pub field_or_ok : {A : Type 0} (name : Name) (absent : A) (read : Json → Outcome A) (j : Json) (a : A) → field_or name absent read j ≡ Ok a → (absent ≡ a) ⊎ ((held : Json) × (read held ≡ Ok a))
+field_or_ok : {A : Type 0} (name : Name) (absent : A) (read : Json → Outcome A) (j : Json) (a : A) → field_or name absent read j ≡ Ok a → (absent ≡ a) ⊎ ((held : Json) × (read held ≡ Ok a))
 unfolding field_or
 field_or_ok name absent read j a e = from_or_ok absent read (get (text_of name) j) a (under_ok (Named (text_of name)) _ a e)
 
@@ -63,9 +64,27 @@ from_optional_ok : {A : Type 0} (read : Json → Outcome A) (found : Option Json
 from_optional_ok read (Some j) o e = let r = bind_ok (read j) _ o e in inr (j, (r.0, r.1, (let kept = r.2 in cc)))
 from_optional_ok read None o e = inl cc
 
-pub optional_ok : {A : Type 0} (name : Name) (read : Json → Outcome A) (j : Json) (o : Option A) → optional name read j ≡ Ok o → (None ≡ o) ⊎ ((held : Json) × ((a : A) × (read held ≡ Ok a) × (Some a ≡ o)))
+optional_ok : {A : Type 0} (name : Name) (read : Json → Outcome A) (j : Json) (o : Option A) → optional name read j ≡ Ok o → (None ≡ o) ⊎ ((held : Json) × ((a : A) × (read held ≡ Ok a) × (Some a ≡ o)))
 unfolding optional
 optional_ok name read j o e = from_optional_ok read (get (text_of name) j) o (under_ok (Named (text_of name)) _ o e)
+
+-- FIELDS OF A FORM
+
+known_ok : {A : Type 0} (read : Outcome A) (name : Name) (f : Fields) (x : A × Fields) → and_known read name f ≡ Ok x → read ≡ Ok x.0
+known_ok (Ok a) name f x e = let same : (a, knowing name f) ≡ x = cc in ap (λ (y : _ × Fields). Ok y.0) same
+known_ok (Err r) name f x e = absurd (let bad : ⊥ = cc in bad)
+
+pub read_field_ok : {A : Type 0} (name : Name) (read : Json → Outcome A) (f : Fields) (x : A × Fields) → read_field name read f ≡ Ok x → (held : Json) × (read held ≡ Ok x.0)
+unfolding read_field
+read_field_ok name read f x e = field_ok name read f.object x.0 (known_ok (field name read f.object) name f x e)
+
+pub read_field_or_ok : {A : Type 0} (name : Name) (absent : A) (read : Json → Outcome A) (f : Fields) (x : A × Fields) → read_field_or name absent read f ≡ Ok x → (absent ≡ x.0) ⊎ ((held : Json) × (read held ≡ Ok x.0))
+unfolding read_field_or
+read_field_or_ok name absent read f x e = field_or_ok name absent read f.object x.0 (known_ok (field_or name absent read f.object) name f x e)
+
+pub read_optional_ok : {A : Type 0} (name : Name) (read : Json → Outcome A) (f : Fields) (x : Option A × Fields) → read_optional name read f ≡ Ok x → (None ≡ x.0) ⊎ ((held : Json) × ((a : A) × (read held ≡ Ok a) × (Some a ≡ x.0)))
+unfolding read_optional
+read_optional_ok name read f x e = optional_ok name read f.object x.0 (known_ok (optional name read f.object) name f x e)
 
 -- NUMBERS AND TEXTS
 
@@ -79,7 +98,7 @@ whole_ok least most j n e =
     let same : m.0 ≡ n = let kept = fits.1 in cc in
     rw (← same) (grind (arith, nat_tests, within.0), grind (arith, nat_tests, within.1))
 
-pub text_ok : (j : Json) (s : List ℕ) → text j ≡ Ok s → length s ≤ 1024
+pub text_ok : (j : Json) (s : List ℕ) → text j ≡ Ok s → length s ≤ most_text
 unfolding text
 text_ok j s e =
     let held = bind_ok (or_refuse (as_str j) wrong_kind) _ s e in

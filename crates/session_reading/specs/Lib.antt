@@ -1,3 +1,4 @@
+pub mod Forms
 pub mod Levels
 pub mod Names
 pub mod PathText

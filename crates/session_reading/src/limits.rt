@@ -9,7 +9,7 @@ const MAX_DEPTH: usize = 16;
 
 const MAX_SIZE: usize = 4096;
 
-const MAX_TEXT: usize = 1024;
+pub(crate) const MAX_TEXT: usize = 1024;
 
 const MAX_WHOLE: i64 = 9007199254740991;
 

@@ -6,6 +6,7 @@ ghost use Rattle.session_reading.specs.Reading.{Json};
 ghost use Rattle.session_reading.specs.Reading as spec;
 
 use crate::error::{SessionError, missing, out_of_range, unknown_field, wrong_kind};
+use crate::limits::MAX_TEXT;
 use crate::name::Name;
 use plain_data::Items;
 use serde_json::{Map, Value};
@@ -83,7 +84,7 @@ pub fn text(alloc: Global, value: &Value) -> Result<&str, SessionError>
     let Some(text) = value.as_str() else {
         return Err(wrong_kind(alloc));
     };
-    if text.len() > 1024 {
+    if text.len() > MAX_TEXT {
         return Err(out_of_range(alloc));
     }
     Ok(text)
@@ -151,7 +152,7 @@ fn each<R: ReadsItem>(
 
 /// What a field of the object holds.
 #[tactic(auto, unfolding(crate::specs::Reading::field))]
-pub fn field<R: Reads>(
+pub(crate) fn field<R: Reads>(
     alloc: Global,
     name: Name,
     reader: &R,
@@ -171,7 +172,7 @@ pub fn field<R: Reads>(
 
 /// What a field of the object holds, or the default where the object has no such field.
 #[tactic(auto, unfolding(crate::specs::Reading::field_or))]
-pub fn field_or<R: Reads>(
+pub(crate) fn field_or<R: Reads>(
     alloc: Global,
     name: Name,
     absent: R::Out,
@@ -191,7 +192,7 @@ pub fn field_or<R: Reads>(
 
 /// What a field of the object holds, where it has such a field.
 #[tactic(auto, unfolding(crate::specs::Reading::optional))]
-pub fn optional<R: Reads>(
+pub(crate) fn optional<R: Reads>(
     alloc: Global,
     name: Name,
     reader: &R,
@@ -210,7 +211,7 @@ pub fn optional<R: Reads>(
 
 /// Refuses the first field, by bytes, that has none of these names.
 #[tactic(auto, unfolding(crate::specs::Reading::no_others))]
-pub fn no_others(alloc: Global, known: &[Name], object: &Value) -> Result<(), SessionError>
+pub(crate) fn no_others(alloc: Global, known: &[Name], object: &Value) -> Result<(), SessionError>
     ensures { Gives result (spec.no_others known.now (view object.now)) }
 {
     let Some(members) = object.as_object() else {

@@ -1,5 +1,5 @@
 -- A session that a text is, is in range.
-use Rattle.std.proofs.Common.{◌≡◌, ◌⊎◌, inl, inr, ◌≤◌, ◌<◌, ◌-◌, ℕ, List, [], ◌∷◌, ◌++◌, length, All, true, false, Some, None, Ok, Err, refl, arith}
+use Rattle.std.proofs.Common.{◌≡◌, ◌⊎◌, inl, inr, ◌≤◌, ◌<◌, ◌-◌, ℕ, List, [], ◌∷◌, ◌++◌, length, All, true, false, Some, None, Ok, Err, refl, ap, arith}
 use Rattle.std.specs.Prelude.{Option, IfOk, is_some}
 use Rattle.std.specs.List.{IsDistinct}
 use Rattle.std.specs.Cmp.{IsEquivalence}
@@ -10,13 +10,15 @@ use Rattle.origin_core.specs.Page.{read_page, IsPageText, is_web_text, fragment_
 use Rattle.agent_terms.specs.declared.session.Session.{Session}
 use Rattle.agent_terms.specs.declared.session.Page.{Page}
 use Rattle.agent_terms.specs.declared.step.Step.{Step}
+use Rattle.agent_terms.specs.Limits.{most_renderers, most_starts, most_turns, most_pages}
 use Rattle.session_reading.specs.declared.name.Name.TheVariants as its
 use Rattle.session_reading.specs.Refusing.{Outcome, Gives}
-use Rattle.session_reading.specs.Reading.{Json, whole, text, any_list, list_of, field, an_object, no_others}
-use Rattle.session_reading.proofs.Read.{bind_ok, then_ok, else_ok, field_ok, field_or_ok, whole_ok, each_keeps, list_ok, any_list_ok, IsRead}
+use Rattle.session_reading.specs.Reading.{Json, whole, text, any_list, list_of}
+use Rattle.session_reading.specs.Forms.{fields_of, read_field, ends}
+use Rattle.session_reading.proofs.Read.{bind_ok, then_ok, else_ok, read_field_ok, read_field_or_ok, whole_ok, each_keeps, list_ok, any_list_ok, IsRead}
 use Rattle.session_text.specs.Session.{url_from, web_url, has_url, page_url, is_suffix, suffix, steps, steps_at, page_read, renderer_of, suffixes_read, order_read, session_read}
 use Rattle.session_text.specs.Range.{AreSteps, IsSuffix, has_same_url, IsInRange}
-use Rattle.session_text.proofs.StepRange.{steps_ok, no_steps}
+use Rattle.session_text.proofs.StepRange.{steps_ok, no_steps, read_or}
 
 -- URLS
 
@@ -63,20 +65,20 @@ steps_held found (inr held) = steps_ok held.0 found held.1
 page_ok : (before : List Page) (j : Json) (page : Page) → page_read before j ≡ Ok page → IsReadPage page × (has_url before page.url ≡ false)
 unfolding page_read steps_at
 page_ok before j page e =
-    let object = bind_ok (an_object j) _ page e in
-    let url = bind_ok (field its.Url (page_url before) j) _ page object.2 in
-    let script = bind_ok (steps_at its.Script j) _ page url.2 in
-    let handler = bind_ok (steps_at its.Handler j) _ page script.2 in
-    let others = bind_ok (no_others (its.Url ∷ its.Script ∷ its.Handler ∷ []) j) _ page handler.2 in
-    let held = field_ok its.Url (page_url before) j url.0 url.1 in
-    let new = page_url_ok before held.0 url.0 held.1 in
-    let same : record { url = url.0; script = script.0; handler = handler.0 } ≡ page = let kept = others.2 in cc in
+    let object = bind_ok (fields_of j) _ page e in
+    let url = bind_ok (read_field its.Url (page_url before) object.0) _ page object.2 in
+    let script = bind_ok (steps_at its.Script url.0.1) _ page url.2 in
+    let handler = bind_ok (steps_at its.Handler script.0.1) _ page script.2 in
+    let others = bind_ok (ends handler.0.1) _ page handler.2 in
+    let held = read_field_ok its.Url (page_url before) object.0 url.0 url.1 in
+    let new = page_url_ok before held.0 url.0.0 held.1 in
+    let same : record { url = url.0.0; script = script.0.0; handler = handler.0.0 } ≡ page = let kept = others.2 in cc in
     rw (← same) (
       record {
         web = new.web;
         fragment = new.fragment;
-        script = steps_held script.0 (field_or_ok its.Script [] steps j script.0 script.1);
-        handler = steps_held handler.0 (field_or_ok its.Handler [] steps j handler.0 handler.1);
+        script = steps_held script.0.0 (read_field_or_ok its.Script [] steps url.0.1 script.0 script.1);
+        handler = steps_held handler.0.0 (read_field_or_ok its.Handler [] steps script.0.1 handler.0 handler.1);
       },
       new.absent,
     )
@@ -101,7 +103,7 @@ no_pages : AreFine []
 unfolding IsDistinct
 no_pages = (All-nil IsReadPage, tt)
 
-pages_ok : (pages : List Page) → IsRead 0 1000 page_read pages → AreFine pages
+pages_ok : (pages : List Page) → IsRead 0 most_pages page_read pages → AreFine pages
 pages_ok pages read = each_keeps AreFine page_read one_more [] read.items.0 pages no_pages read.items.1
 
 -- LISTS OF A SESSION
@@ -109,7 +111,7 @@ pages_ok pages read = each_keeps AreFine page_read one_more [] read.items.0 page
 abbrev IsWeb : List ℕ → Type 0
 IsWeb url = is_web_text url ≡ true
 
-start_ok : (start : List (List ℕ)) → IsRead 1 64 (λ _. web_url) start → All IsWeb start
+start_ok : (start : List (List ℕ)) → IsRead 1 most_starts (λ _. web_url) start → All IsWeb start
 start_ok start read =
     each_keeps (All IsWeb) (λ _. web_url) (λ before j url fine e. All-push IsWeb before url fine (web_url_ok j url e))
     [] read.items.0 start (All-nil IsWeb) read.items.1
@@ -134,16 +136,16 @@ IsBelow renderers r = r < renderers
 
 -- the turns that come first
 record IsOrder (renderers : ℕ) (found : List ℕ) : Type 0 where
-  few : length found ≤ 20000
+  few : length found ≤ most_turns
   all : All (IsBelow renderers) found
 
 below_ok : (renderers : ℕ) (j : Json) (r : ℕ) → 1 ≤ renderers → renderer_of renderers j ≡ Ok r → r < renderers
 below_ok renderers j r some e = let within = whole_ok 0 (renderers - 1) j r e in omega (arith, within.1)
 
-order_ok : (renderers : ℕ) (found : List ℕ) → 1 ≤ renderers → ([] ≡ found) ⊎ ((held : Json) × (list_of 0 20000 (λ _. renderer_of renderers) held ≡ Ok found)) → IsOrder renderers found
+order_ok : (renderers : ℕ) (found : List ℕ) → 1 ≤ renderers → ([] ≡ found) ⊎ ((held : Json) × (list_of 0 most_turns (λ _. renderer_of renderers) held ≡ Ok found)) → IsOrder renderers found
 order_ok renderers found some (inl same) = rw (← same) (record { few = omega arith; all = All-nil (IsBelow renderers) })
 order_ok renderers found some (inr held) =
-    let read = list_ok 0 20000 (λ _. renderer_of renderers) held.0 found held.1 in
+    let read = list_ok 0 most_turns (λ _. renderer_of renderers) held.0 found held.1 in
     record {
       few = read.at_most;
       all = each_keeps (All (IsBelow renderers)) (λ _. renderer_of renderers) (λ before j r fine e. All-push (IsBelow renderers) before r fine (below_ok renderers j r some e)) [] read.items.0 found (All-nil (IsBelow renderers)) read.items.1;
@@ -154,43 +156,43 @@ order_ok renderers found some (inr held) =
 -- what the readers tell of a session
 record IsReadSession (s : Session) : Type 0 where
   some_renderer : 1 ≤ s.renderers
-  renderers : s.renderers ≤ 16
+  renderers : s.renderers ≤ most_renderers
   suffixes : All IsSuffix s.suffixes
   some_start : 1 ≤ length s.start
-  starts : length s.start ≤ 64
+  starts : length s.start ≤ most_starts
   start : All IsWeb s.start
   order : IsOrder s.renderers s.order
   lose : s.lose ≡ []
-  most : length s.pages ≤ 1000
+  most : length s.pages ≤ most_pages
   pages : All IsReadPage s.pages
   apart : IsDistinct has_same_url s.pages
 
 session_ok : (j : Json) (s : Session) → session_read j ≡ Ok s → IsReadSession s
 unfolding session_read suffixes_read order_read
 session_ok j s e =
-    let object = bind_ok (an_object j) _ s e in
-    let renderers = bind_ok (field its.Renderers (whole 1 16) j) _ s object.2 in
-    let suffixes = bind_ok (suffixes_read j) _ s renderers.2 in
-    let start = bind_ok (field its.Start (list_of 1 64 (λ _. web_url)) j) _ s suffixes.2 in
-    let order = bind_ok (order_read renderers.0 j) _ s start.2 in
-    let pages = bind_ok (field its.Pages (list_of 0 1000 page_read) j) _ s order.2 in
-    let others = bind_ok (no_others (its.Renderers ∷ its.Suffixes ∷ its.Start ∷ its.Order ∷ its.Pages ∷ []) j) _ s pages.2 in
-    let the_number = field_ok its.Renderers (whole 1 16) j renderers.0 renderers.1 in
-    let within = whole_ok 1 16 the_number.0 renderers.0 the_number.1 in
-    let the_start = field_ok its.Start (list_of 1 64 (λ _. web_url)) j start.0 start.1 in
-    let starts = list_ok 1 64 (λ _. web_url) the_start.0 start.0 the_start.1 in
-    let the_pages = field_ok its.Pages (list_of 0 1000 page_read) j pages.0 pages.1 in
-    let found = list_ok 0 1000 page_read the_pages.0 pages.0 the_pages.1 in
-    let fine = pages_ok pages.0 found in
-    let same : record { renderers = renderers.0; suffixes = suffixes.0; start = start.0; order = order.0; lose = []; pages = pages.0 } ≡ s = let kept = others.2 in cc in
+    let object = bind_ok (fields_of j) _ s e in
+    let renderers = bind_ok (read_field its.Renderers (whole 1 most_renderers) object.0) _ s object.2 in
+    let suffixes = bind_ok (suffixes_read renderers.0.1) _ s renderers.2 in
+    let start = bind_ok (read_field its.Start (list_of 1 most_starts (λ _. web_url)) suffixes.0.1) _ s suffixes.2 in
+    let order = bind_ok (order_read renderers.0.0 start.0.1) _ s start.2 in
+    let pages = bind_ok (read_field its.Pages (list_of 0 most_pages page_read) order.0.1) _ s order.2 in
+    let others = bind_ok (ends pages.0.1) _ s pages.2 in
+    let the_number = read_field_ok its.Renderers (whole 1 most_renderers) object.0 renderers.0 renderers.1 in
+    let within = whole_ok 1 most_renderers the_number.0 renderers.0.0 the_number.1 in
+    let the_start = read_field_ok its.Start (list_of 1 most_starts (λ _. web_url)) suffixes.0.1 start.0 start.1 in
+    let starts = list_ok 1 most_starts (λ _. web_url) the_start.0 start.0.0 the_start.1 in
+    let the_pages = read_field_ok its.Pages (list_of 0 most_pages page_read) order.0.1 pages.0 pages.1 in
+    let found = list_ok 0 most_pages page_read the_pages.0 pages.0.0 the_pages.1 in
+    let fine = pages_ok pages.0.0 found in
+    let same : record { renderers = renderers.0.0; suffixes = suffixes.0.0; start = start.0.0; order = order.0.0; lose = []; pages = pages.0.0 } ≡ s = ap (read_or s) others.2 in
     rw (← same) (record {
       some_renderer = within.0;
       renderers = within.1;
-      suffixes = suffixes_ok suffixes.0 (field_or_ok its.Suffixes [] (any_list (λ _. suffix)) j suffixes.0 suffixes.1);
+      suffixes = suffixes_ok suffixes.0.0 (read_field_or_ok its.Suffixes [] (any_list (λ _. suffix)) renderers.0.1 suffixes.0 suffixes.1);
       some_start = starts.at_least;
       starts = starts.at_most;
-      start = start_ok start.0 starts;
-      order = order_ok renderers.0 order.0 within.0 (field_or_ok its.Order [] (list_of 0 20000 (λ _. renderer_of renderers.0)) j order.0 order.1);
+      start = start_ok start.0.0 starts;
+      order = order_ok renderers.0.0 order.0.0 within.0 (read_field_or_ok its.Order [] (list_of 0 most_turns (λ _. renderer_of renderers.0.0)) start.0.1 order.0 order.1);
       lose = refl;
       most = found.at_most;
       pages = fine.0;

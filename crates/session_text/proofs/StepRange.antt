@@ -1,5 +1,5 @@
 -- What the readers of steps give is in range.
-use Rattle.std.proofs.Common.{inl, inr, ◌≡◌, ◌⊎◌, ◌≤◌, ℕ, List, [], ◌∷◌, ◌++◌, length, All, Bool, true, false, Some, None, Ok, arith, lit≤}
+use Rattle.std.proofs.Common.{inl, inr, ◌≡◌, ◌⊎◌, ◌≤◌, ℕ, List, [], ◌∷◌, ◌++◌, length, All, Bool, true, false, Some, None, Ok, Err, ap, arith, lit≤}
 use Rattle.std.specs.Prelude.{Option, IfSome, codes, if◌then◌else◌, bytes_eq}
 use Rattle.std.proofs.lemmas.List.Elements.{All-nil, All-push}
 use Rattle.window_props.specs.declared.key.Key.{Key}
@@ -13,34 +13,41 @@ use Rattle.agent_terms.specs.declared.step.Operand.TheVariants as operand
 use Rattle.agent_terms.specs.declared.step.Step.{Step}
 use Rattle.agent_terms.specs.declared.step.Step.TheVariants as step
 use Rattle.agent_terms.specs.Built.{is_built, IsBuilt}
+use Rattle.agent_terms.specs.Limits.{most_steps, most_args, most_index}
 use Rattle.session_reading.specs.declared.name.Name.{Name}
 use Rattle.session_reading.specs.declared.name.Name.TheVariants as its
 use Rattle.session_reading.specs.Refusing.{Outcome, ◌>>=◌}
-use Rattle.session_reading.specs.Reading.{Json, text, truth, list_of, field, field_or, optional, an_object, no_others}
+use Rattle.session_reading.specs.Reading.{Json, text, truth, list_of}
+use Rattle.session_reading.specs.Forms.{Fields, fields_of, read_field, read_field_or, read_optional, ends}
 use Rattle.session_reading.specs.PlainData.{plain, limited, data_read}
-use Rattle.plain_data.specs.DataLimits.{within_limits}
-use Rattle.session_reading.proofs.Read.{bind_ok, then_ok, else_ok, field_ok, field_or_ok, optional_ok, whole_ok, text_ok, each_keeps, list_ok}
-use Rattle.session_text.specs.Steps.{is_register, is_kept, register, receiver, key, named_in, operand_of, operand_read, args_read, index_read, let_step, get_step, has_step, describe_step, keys_step, proto_step, set_proto_step, extensible_step, prevent_step, set_step, define_step, delete_step, call_step, sync_step, frame_step, drop_step, open_step, link_step, step_by, op_read, built_step, step_read}
+use Rattle.plain_data.specs.DataLimits.{most_text, within_limits}
+use Rattle.session_reading.proofs.Read.{bind_ok, then_ok, else_ok, read_field_ok, read_field_or_ok, read_optional_ok, whole_ok, text_ok, each_keeps, list_ok}
+use Rattle.session_text.specs.Steps.{is_register, is_kept, register, receiver, key, named_in, operand_of, operand_read, args_read, index_read, let_step, get_step, set_step, define_step, call_step, frame_step, open_step, link_step, of_alone, of_and_key, index_alone, step_by, op_read, built_step, step_read}
 use Rattle.session_text.specs.Range.{IsRegister, IsReceiver, IsText, IsKey, IsIndex, IsOperand, AreArgs, IsStep, AreSteps}
+
+-- what was read, where something was
+abbrev pub read_or : {A : Type 0} → A → Outcome A → A
+read_or absent (Ok a) = a
+read_or absent (Err e) = absent
 
 -- FIELDS
 
-field_keeps : {A : Type 0} (P : A → Type 0) (read : Json → Outcome A) (keeps : (j : Json) (a : A) → read j ≡ Ok a → P a) (name : Name) (j : Json) (a : A) → field name read j ≡ Ok a → P a
-field_keeps P read keeps name j a e = let held = field_ok name read j a e in keeps held.0 a held.1
+field_keeps : {A : Type 0} (P : A → Type 0) (read : Json → Outcome A) (keeps : (j : Json) (a : A) → read j ≡ Ok a → P a) (name : Name) (f : Fields) (x : A × Fields) → read_field name read f ≡ Ok x → P x.0
+field_keeps P read keeps name f x e = let held = read_field_ok name read f x e in keeps held.0 x.0 held.1
 
 or_keeps : {A : Type 0} (P : A → Type 0) (read : Json → Outcome A) (keeps : (j : Json) (a : A) → read j ≡ Ok a → P a) (absent : A) (fine : P absent) (a : A) → (absent ≡ a) ⊎ ((held : Json) × (read held ≡ Ok a)) → P a
 or_keeps P read keeps absent fine a (inl same) = rw (← same) fine
 or_keeps P read keeps absent fine a (inr held) = keeps held.0 a held.1
 
-field_or_keeps : {A : Type 0} (P : A → Type 0) (read : Json → Outcome A) (keeps : (j : Json) (a : A) → read j ≡ Ok a → P a) (name : Name) (absent : A) (fine : P absent) (j : Json) (a : A) → field_or name absent read j ≡ Ok a → P a
-field_or_keeps P read keeps name absent fine j a e = or_keeps P read keeps absent fine a (field_or_ok name absent read j a e)
+field_or_keeps : {A : Type 0} (P : A → Type 0) (read : Json → Outcome A) (keeps : (j : Json) (a : A) → read j ≡ Ok a → P a) (name : Name) (absent : A) (fine : P absent) (f : Fields) (x : A × Fields) → read_field_or name absent read f ≡ Ok x → P x.0
+field_or_keeps P read keeps name absent fine f x e = or_keeps P read keeps absent fine x.0 (read_field_or_ok name absent read f x e)
 
 there_keeps : {A : Type 0} (P : A → Type 0) (read : Json → Outcome A) (keeps : (j : Json) (a : A) → read j ≡ Ok a → P a) (o : Option A) → (None ≡ o) ⊎ ((held : Json) × ((a : A) × (read held ≡ Ok a) × (Some a ≡ o))) → IfSome o P
 there_keeps P read keeps o (inl same) = rw (← same) tt
 there_keeps P read keeps o (inr held) = let it = held.1 in rw (← it.2) (keeps held.0 it.0 it.1)
 
-optional_keeps : {A : Type 0} (P : A → Type 0) (read : Json → Outcome A) (keeps : (j : Json) (a : A) → read j ≡ Ok a → P a) (name : Name) (j : Json) (o : Option A) → optional name read j ≡ Ok o → IfSome o P
-optional_keeps P read keeps name j o e = there_keeps P read keeps o (optional_ok name read j o e)
+optional_keeps : {A : Type 0} (P : A → Type 0) (read : Json → Outcome A) (keeps : (j : Json) (a : A) → read j ≡ Ok a → P a) (name : Name) (f : Fields) (x : Option A × Fields) → read_optional name read f ≡ Ok x → IfSome x.0 P
+optional_keeps P read keeps name f x e = there_keeps P read keeps x.0 (read_optional_ok name read f x e)
 
 -- VALUES
 
@@ -61,7 +68,7 @@ receiver_ok j s e =
     rw (← same) (record { register = register_ok j name.0 name.1; free = free.0 })
 
 -- a symbol's text is short, and that of any other key is the text that was read
-key_of : (a b c : Bool) (s : List ℕ) → length s ≤ 1024 → length (key_text (if a then ToStringTag else if b then HasInstance else if c then IsConcatSpreadable else Text s)) ≤ 1024
+key_of : (a b c : Bool) (s : List ℕ) → length s ≤ most_text → length (key_text (if a then ToStringTag else if b then HasInstance else if c then IsConcatSpreadable else Text s)) ≤ most_text
 unfolding key_text
 key_of true b c s short = omega arith
 key_of false true c s short = omega arith
@@ -76,7 +83,7 @@ key_ok j k e =
     rw (← same) (key_of (bytes_eq s.0 (codes "@@toStringTag")) (bytes_eq s.0 (codes "@@hasInstance")) (bytes_eq s.0 (codes "@@isConcatSpreadable")) s.0 (text_ok j s.0 s.1))
 
 index_ok : (j : Json) (n : ℕ) → index_read j ≡ Ok n → IsIndex n
-index_ok j n e = (whole_ok 0 20000 j n e).1
+index_ok j n e = (whole_ok 0 most_index j n e).1
 
 data_ok : (j : Json) (value : Data) → data_read j ≡ Ok value → within_limits value ≡ true
 unfolding data_read limited
@@ -103,7 +110,7 @@ operand_ok j value e = operand_by (named_in j) j value e
 
 args_ok : (j : Json) (args : List Operand) → args_read j ≡ Ok args → AreArgs args
 args_ok j args e =
-    let found = list_ok 0 2 (λ _. operand_read) j args e in
+    let found = list_ok 0 most_args (λ _. operand_read) j args e in
     record {
       few = found.at_most;
       all = each_keeps (All IsOperand) (λ _. operand_read) (λ before j value fine e. All-push IsOperand before value fine (operand_ok j value e)) [] found.items.0 args (All-nil IsOperand) found.items.1;
@@ -111,197 +118,166 @@ args_ok j args e =
 
 -- STEPS
 
-let_ok : (j : Json) (s : Step) → let_step j ≡ Ok s → IsStep s
+let_ok : (f : Fields) (s : Step) → let_step f ≡ Ok s → IsStep s
 unfolding let_step
-let_ok j s e =
-    let to = bind_ok (optional its.To receiver j) _ s e in
-    let value = bind_ok (field its.Value operand_read j) _ s to.2 in
-    let others = bind_ok (no_others (its.Op ∷ its.To ∷ its.Value ∷ []) j) _ s value.2 in
-    let same : step.Let to.0 value.0 ≡ s = let kept = others.2 in cc in
-    rw (← same) (optional_keeps IsReceiver receiver receiver_ok its.To j to.0 to.1, field_keeps IsOperand operand_read operand_ok its.Value j value.0 value.1)
+let_ok f s e =
+    let to = bind_ok (read_optional its.To receiver f) _ s e in
+    let value = bind_ok (read_field its.Value operand_read to.0.1) _ s to.2 in
+    let others = bind_ok (ends (value.0.1)) _ s value.2 in
+    let same : step.Let to.0.0 value.0.0 ≡ s = let kept = others.2 in cc in
+    rw (← same) (optional_keeps IsReceiver receiver receiver_ok its.To f to.0 to.1, field_keeps IsOperand operand_read operand_ok its.Value to.0.1 value.0 value.1)
 
-get_ok : (j : Json) (s : Step) → get_step j ≡ Ok s → IsStep s
+get_ok : (f : Fields) (s : Step) → get_step f ≡ Ok s → IsStep s
 unfolding get_step
-get_ok j s e =
-    let of = bind_ok (field its.Of register j) _ s e in
-    let k = bind_ok (field its.Key key j) _ s of.2 in
-    let to = bind_ok (optional its.To receiver j) _ s k.2 in
-    let others = bind_ok (no_others (its.Op ∷ its.Of ∷ its.Key ∷ its.To ∷ []) j) _ s to.2 in
-    let same : step.Get of.0 k.0 to.0 ≡ s = let kept = others.2 in cc in
-    rw (← same) (field_keeps IsRegister register register_ok its.Of j of.0 of.1, field_keeps IsKey key key_ok its.Key j k.0 k.1, optional_keeps IsReceiver receiver receiver_ok its.To j to.0 to.1)
+get_ok f s e =
+    let of = bind_ok (read_field its.Of register f) _ s e in
+    let k = bind_ok (read_field its.Key key of.0.1) _ s of.2 in
+    let to = bind_ok (read_optional its.To receiver k.0.1) _ s k.2 in
+    let others = bind_ok (ends (to.0.1)) _ s to.2 in
+    let same : step.Get of.0.0 k.0.0 to.0.0 ≡ s = let kept = others.2 in cc in
+    rw (← same) (field_keeps IsRegister register register_ok its.Of f of.0 of.1, field_keeps IsKey key key_ok its.Key of.0.1 k.0 k.1, optional_keeps IsReceiver receiver receiver_ok its.To k.0.1 to.0 to.1)
 
-has_ok : (j : Json) (s : Step) → has_step j ≡ Ok s → IsStep s
-unfolding has_step
-has_ok j s e =
-    let of = bind_ok (field its.Of register j) _ s e in
-    let k = bind_ok (field its.Key key j) _ s of.2 in
-    let others = bind_ok (no_others (its.Op ∷ its.Of ∷ its.Key ∷ []) j) _ s k.2 in
-    let same : step.Has of.0 k.0 ≡ s = let kept = others.2 in cc in
-    rw (← same) (field_keeps IsRegister register register_ok its.Of j of.0 of.1, field_keeps IsKey key key_ok its.Key j k.0 k.1)
-
-describe_ok : (j : Json) (s : Step) → describe_step j ≡ Ok s → IsStep s
-unfolding describe_step
-describe_ok j s e =
-    let of = bind_ok (field its.Of register j) _ s e in
-    let k = bind_ok (field its.Key key j) _ s of.2 in
-    let others = bind_ok (no_others (its.Op ∷ its.Of ∷ its.Key ∷ []) j) _ s k.2 in
-    let same : step.Describe of.0 k.0 ≡ s = let kept = others.2 in cc in
-    rw (← same) (field_keeps IsRegister register register_ok its.Of j of.0 of.1, field_keeps IsKey key key_ok its.Key j k.0 k.1)
-
-keys_ok : (j : Json) (s : Step) → keys_step j ≡ Ok s → IsStep s
-unfolding keys_step
-keys_ok j s e =
-    let of = bind_ok (field its.Of register j) _ s e in
-    let others = bind_ok (no_others (its.Op ∷ its.Of ∷ []) j) _ s of.2 in
-    let same : step.Keys of.0 ≡ s = let kept = others.2 in cc in
-    rw (← same) (field_keeps IsRegister register register_ok its.Of j of.0 of.1)
-
-proto_ok : (j : Json) (s : Step) → proto_step j ≡ Ok s → IsStep s
-unfolding proto_step
-proto_ok j s e =
-    let of = bind_ok (field its.Of register j) _ s e in
-    let others = bind_ok (no_others (its.Op ∷ its.Of ∷ []) j) _ s of.2 in
-    let same : step.Proto of.0 ≡ s = let kept = others.2 in cc in
-    rw (← same) (field_keeps IsRegister register register_ok its.Of j of.0 of.1)
-
-set_proto_ok : (j : Json) (s : Step) → set_proto_step j ≡ Ok s → IsStep s
-unfolding set_proto_step
-set_proto_ok j s e =
-    let of = bind_ok (field its.Of register j) _ s e in
-    let others = bind_ok (no_others (its.Op ∷ its.Of ∷ []) j) _ s of.2 in
-    let same : step.SetProto of.0 ≡ s = let kept = others.2 in cc in
-    rw (← same) (field_keeps IsRegister register register_ok its.Of j of.0 of.1)
-
-extensible_ok : (j : Json) (s : Step) → extensible_step j ≡ Ok s → IsStep s
-unfolding extensible_step
-extensible_ok j s e =
-    let of = bind_ok (field its.Of register j) _ s e in
-    let others = bind_ok (no_others (its.Op ∷ its.Of ∷ []) j) _ s of.2 in
-    let same : step.Extensible of.0 ≡ s = let kept = others.2 in cc in
-    rw (← same) (field_keeps IsRegister register register_ok its.Of j of.0 of.1)
-
-prevent_ok : (j : Json) (s : Step) → prevent_step j ≡ Ok s → IsStep s
-unfolding prevent_step
-prevent_ok j s e =
-    let of = bind_ok (field its.Of register j) _ s e in
-    let others = bind_ok (no_others (its.Op ∷ its.Of ∷ []) j) _ s of.2 in
-    let same : step.Prevent of.0 ≡ s = let kept = others.2 in cc in
-    rw (← same) (field_keeps IsRegister register register_ok its.Of j of.0 of.1)
-
-set_ok : (j : Json) (s : Step) → set_step j ≡ Ok s → IsStep s
+set_ok : (f : Fields) (s : Step) → set_step f ≡ Ok s → IsStep s
 unfolding set_step
-set_ok j s e =
-    let of = bind_ok (field its.Of register j) _ s e in
-    let k = bind_ok (field its.Key key j) _ s of.2 in
-    let value = bind_ok (field its.Value operand_read j) _ s k.2 in
-    let user = bind_ok (field_or its.User false truth j) _ s value.2 in
-    let others = bind_ok (no_others (its.Op ∷ its.Of ∷ its.Key ∷ its.Value ∷ its.User ∷ []) j) _ s user.2 in
-    let same : step.Set of.0 k.0 value.0 user.0 ≡ s = let kept = others.2 in cc in
-    rw (← same) (field_keeps IsRegister register register_ok its.Of j of.0 of.1, field_keeps IsKey key key_ok its.Key j k.0 k.1, field_keeps IsOperand operand_read operand_ok its.Value j value.0 value.1)
+set_ok f s e =
+    let of = bind_ok (read_field its.Of register f) _ s e in
+    let k = bind_ok (read_field its.Key key of.0.1) _ s of.2 in
+    let value = bind_ok (read_field its.Value operand_read k.0.1) _ s k.2 in
+    let user = bind_ok (read_field_or its.User false truth value.0.1) _ s value.2 in
+    let others = bind_ok (ends (user.0.1)) _ s user.2 in
+    let same : step.Set of.0.0 k.0.0 value.0.0 user.0.0 ≡ s = let kept = others.2 in cc in
+    rw (← same) (field_keeps IsRegister register register_ok its.Of f of.0 of.1, field_keeps IsKey key key_ok its.Key of.0.1 k.0 k.1, field_keeps IsOperand operand_read operand_ok its.Value k.0.1 value.0 value.1)
 
-define_ok : (j : Json) (s : Step) → define_step j ≡ Ok s → IsStep s
+define_ok : (f : Fields) (s : Step) → define_step f ≡ Ok s → IsStep s
 unfolding define_step
-define_ok j s e =
-    let of = bind_ok (field its.Of register j) _ s e in
-    let k = bind_ok (field its.Key key j) _ s of.2 in
-    let value = bind_ok (optional its.Value operand_read j) _ s k.2 in
-    let writable = bind_ok (optional its.Writable truth j) _ s value.2 in
-    let enumerable = bind_ok (optional its.Enumerable truth j) _ s writable.2 in
-    let configurable = bind_ok (optional its.Configurable truth j) _ s enumerable.2 in
-    let others = bind_ok (no_others (its.Op ∷ its.Of ∷ its.Key ∷ its.Value ∷ its.Writable ∷ its.Enumerable ∷ its.Configurable ∷ []) j) _ s configurable.2 in
-    let same : step.Define of.0 k.0 value.0 writable.0 enumerable.0 configurable.0 ≡ s = let kept = others.2 in cc in
-    rw (← same) (field_keeps IsRegister register register_ok its.Of j of.0 of.1, field_keeps IsKey key key_ok its.Key j k.0 k.1, optional_keeps IsOperand operand_read operand_ok its.Value j value.0 value.1)
+define_ok f s e =
+    let of = bind_ok (read_field its.Of register f) _ s e in
+    let k = bind_ok (read_field its.Key key of.0.1) _ s of.2 in
+    let value = bind_ok (read_optional its.Value operand_read k.0.1) _ s k.2 in
+    let writable = bind_ok (read_optional its.Writable truth value.0.1) _ s value.2 in
+    let enumerable = bind_ok (read_optional its.Enumerable truth writable.0.1) _ s writable.2 in
+    let configurable = bind_ok (read_optional its.Configurable truth enumerable.0.1) _ s enumerable.2 in
+    let others = bind_ok (ends (configurable.0.1)) _ s configurable.2 in
+    let same : step.Define of.0.0 k.0.0 value.0.0 writable.0.0 enumerable.0.0 configurable.0.0 ≡ s = ap (read_or s) others.2 in
+    rw (← same) (field_keeps IsRegister register register_ok its.Of f of.0 of.1, field_keeps IsKey key key_ok its.Key of.0.1 k.0 k.1, optional_keeps IsOperand operand_read operand_ok its.Value k.0.1 value.0 value.1)
 
-delete_ok : (j : Json) (s : Step) → delete_step j ≡ Ok s → IsStep s
-unfolding delete_step
-delete_ok j s e =
-    let of = bind_ok (field its.Of register j) _ s e in
-    let k = bind_ok (field its.Key key j) _ s of.2 in
-    let others = bind_ok (no_others (its.Op ∷ its.Of ∷ its.Key ∷ []) j) _ s k.2 in
-    let same : step.Delete of.0 k.0 ≡ s = let kept = others.2 in cc in
-    rw (← same) (field_keeps IsRegister register register_ok its.Of j of.0 of.1, field_keeps IsKey key key_ok its.Key j k.0 k.1)
-
-call_ok : (j : Json) (s : Step) → call_step j ≡ Ok s → IsStep s
+call_ok : (f : Fields) (s : Step) → call_step f ≡ Ok s → IsStep s
 unfolding call_step
-call_ok j s e =
-    let of = bind_ok (field its.Of register j) _ s e in
-    let k = bind_ok (field its.Key key j) _ s of.2 in
-    let args = bind_ok (field its.Args args_read j) _ s k.2 in
-    let to = bind_ok (optional its.To receiver j) _ s args.2 in
-    let user = bind_ok (field_or its.User false truth j) _ s to.2 in
-    let others = bind_ok (no_others (its.Op ∷ its.Of ∷ its.Key ∷ its.Args ∷ its.To ∷ its.User ∷ []) j) _ s user.2 in
-    let same : step.Call of.0 k.0 args.0 to.0 user.0 ≡ s = let kept = others.2 in cc in
-    rw (← same) (field_keeps IsRegister register register_ok its.Of j of.0 of.1, field_keeps IsKey key key_ok its.Key j k.0 k.1, field_keeps AreArgs args_read args_ok its.Args j args.0 args.1, optional_keeps IsReceiver receiver receiver_ok its.To j to.0 to.1)
+call_ok f s e =
+    let of = bind_ok (read_field its.Of register f) _ s e in
+    let k = bind_ok (read_field its.Key key of.0.1) _ s of.2 in
+    let args = bind_ok (read_field its.Args args_read k.0.1) _ s k.2 in
+    let to = bind_ok (read_optional its.To receiver args.0.1) _ s args.2 in
+    let user = bind_ok (read_field_or its.User false truth to.0.1) _ s to.2 in
+    let others = bind_ok (ends (user.0.1)) _ s user.2 in
+    let same : step.Call of.0.0 k.0.0 args.0.0 to.0.0 user.0.0 ≡ s = let kept = others.2 in cc in
+    rw (← same) (field_keeps IsRegister register register_ok its.Of f of.0 of.1, field_keeps IsKey key key_ok its.Key of.0.1 k.0 k.1, field_keeps AreArgs args_read args_ok its.Args k.0.1 args.0 args.1, optional_keeps IsReceiver receiver receiver_ok its.To args.0.1 to.0 to.1)
 
-sync_ok : (j : Json) (s : Step) → sync_step j ≡ Ok s → IsStep s
-unfolding sync_step
-sync_ok j s e =
-    let others = bind_ok (no_others (its.Op ∷ []) j) _ s e in
+frame_ok : (f : Fields) (s : Step) → frame_step f ≡ Ok s → IsStep s
+unfolding frame_step
+frame_ok f s e =
+    let url = bind_ok (read_optional its.Url text f) _ s e in
+    let name = bind_ok (read_optional its.Name text url.0.1) _ s url.2 in
+    let sandbox = bind_ok (read_optional its.Sandbox text name.0.1) _ s name.2 in
+    let to = bind_ok (read_optional its.To receiver sandbox.0.1) _ s sandbox.2 in
+    let others = bind_ok (ends (to.0.1)) _ s to.2 in
+    let same : step.Frame url.0.0 name.0.0 sandbox.0.0 to.0.0 ≡ s = let kept = others.2 in cc in
+    rw (← same) (optional_keeps IsText text text_ok its.Url f url.0 url.1, optional_keeps IsText text text_ok its.Name url.0.1 name.0 name.1, optional_keeps IsText text text_ok its.Sandbox name.0.1 sandbox.0 sandbox.1, optional_keeps IsReceiver receiver receiver_ok its.To sandbox.0.1 to.0 to.1)
+
+open_ok : (f : Fields) (s : Step) → open_step f ≡ Ok s → IsStep s
+unfolding open_step
+open_ok f s e =
+    let url = bind_ok (read_optional its.Url text f) _ s e in
+    let target = bind_ok (read_field_or its.Target (codes "_blank") text url.0.1) _ s url.2 in
+    let noopener = bind_ok (read_field_or its.Noopener false truth target.0.1) _ s target.2 in
+    let user = bind_ok (read_field_or its.User false truth noopener.0.1) _ s noopener.2 in
+    let to = bind_ok (read_optional its.To receiver user.0.1) _ s user.2 in
+    let others = bind_ok (ends (to.0.1)) _ s to.2 in
+    let same : step.Open url.0.0 target.0.0 noopener.0.0 user.0.0 to.0.0 ≡ s = let kept = others.2 in cc in
+    rw (← same) (optional_keeps IsText text text_ok its.Url f url.0 url.1, field_or_keeps IsText text text_ok its.Target (codes "_blank") (lit≤ tt) url.0.1 target.0 target.1, optional_keeps IsReceiver receiver receiver_ok its.To user.0.1 to.0 to.1)
+
+link_ok : (f : Fields) (s : Step) → link_step f ≡ Ok s → IsStep s
+unfolding link_step
+link_ok f s e =
+    let url = bind_ok (read_field its.Url text f) _ s e in
+    let target = bind_ok (read_field_or its.Target [] text url.0.1) _ s url.2 in
+    let rel = bind_ok (read_field_or its.Rel [] text target.0.1) _ s target.2 in
+    let user = bind_ok (read_field_or its.User false truth rel.0.1) _ s rel.2 in
+    let others = bind_ok (ends (user.0.1)) _ s user.2 in
+    let same : step.Link url.0.0 target.0.0 rel.0.0 user.0.0 ≡ s = let kept = others.2 in cc in
+    rw (← same) (field_keeps IsText text text_ok its.Url f url.0 url.1, field_or_keeps IsText text text_ok its.Target [] (lit≤ tt) url.0.1 target.0 target.1, field_or_keeps IsText text text_ok its.Rel [] (lit≤ tt) target.0.1 rel.0 rel.1)
+
+of_ok : (f : Fields) (name : List ℕ) → of_alone f ≡ Ok name → IsRegister name
+unfolding of_alone
+of_ok f name e =
+    let of = bind_ok (read_field its.Of register f) _ name e in
+    let others = bind_ok (ends (of.0.1)) _ name of.2 in
+    let same : of.0.0 ≡ name = let kept = others.2 in cc in
+    rw (← same) (field_keeps IsRegister register register_ok its.Of f of.0 of.1)
+
+of_and_key_ok : (f : Fields) (it : List ℕ × Key) → of_and_key f ≡ Ok it → IsRegister it.0 × IsKey it.1
+unfolding of_and_key
+of_and_key_ok f it e =
+    let of = bind_ok (read_field its.Of register f) _ it e in
+    let k = bind_ok (read_field its.Key key of.0.1) _ it of.2 in
+    let others = bind_ok (ends (k.0.1)) _ it k.2 in
+    let same : (of.0.0, k.0.0) ≡ it = let kept = others.2 in cc in
+    rw (← same) (field_keeps IsRegister register register_ok its.Of f of.0 of.1, field_keeps IsKey key key_ok its.Key of.0.1 k.0 k.1)
+
+index_alone_ok : (f : Fields) (index : ℕ) → index_alone f ≡ Ok index → IsIndex index
+unfolding index_alone
+index_alone_ok f n e =
+    let index = bind_ok (read_field its.Index index_read f) _ n e in
+    let others = bind_ok (ends (index.0.1)) _ n index.2 in
+    let same : index.0.0 ≡ n = let kept = others.2 in cc in
+    rw (← same) (field_keeps IsIndex index_read index_ok its.Index f index.0 index.1)
+
+-- a step of the object alone, or of the object and a key
+
+of_step_ok : (make : List ℕ → Step) (f : Fields) (s : Step) → ((name : List ℕ) → IsRegister name → IsStep (make name)) → (of_alone f >>= λ of. Ok (make of)) ≡ Ok s → IsStep s
+of_step_ok make f s fine e =
+    let of = bind_ok (of_alone f) _ s e in
+    let same : make of.0 ≡ s = let kept = of.2 in cc in
+    rw (← same) (fine of.0 (of_ok f of.0 of.1))
+
+key_step_ok : (make : List ℕ → Key → Step) (f : Fields) (s : Step) → ((name : List ℕ) (k : Key) → IsRegister name × IsKey k → IsStep (make name k)) → (of_and_key f >>= λ it. Ok (make it.0 it.1)) ≡ Ok s → IsStep s
+key_step_ok make f s fine e =
+    let it = bind_ok (of_and_key f) _ s e in
+    let same : make it.0.0 it.0.1 ≡ s = let kept = it.2 in cc in
+    rw (← same) (fine it.0.0 it.0.1 (of_and_key_ok f it.0 it.1))
+
+sync_ok : (f : Fields) (s : Step) → (ends f >>= λ _. Ok step.Sync) ≡ Ok s → IsStep s
+sync_ok f s e =
+    let others = bind_ok (ends f) _ s e in
     let same : step.Sync ≡ s = let kept = others.2 in cc in
     rw (← same) tt
 
-frame_ok : (j : Json) (s : Step) → frame_step j ≡ Ok s → IsStep s
-unfolding frame_step
-frame_ok j s e =
-    let url = bind_ok (optional its.Url text j) _ s e in
-    let name = bind_ok (optional its.Name text j) _ s url.2 in
-    let sandbox = bind_ok (optional its.Sandbox text j) _ s name.2 in
-    let to = bind_ok (optional its.To receiver j) _ s sandbox.2 in
-    let others = bind_ok (no_others (its.Op ∷ its.Url ∷ its.Name ∷ its.Sandbox ∷ its.To ∷ []) j) _ s to.2 in
-    let same : step.Frame url.0 name.0 sandbox.0 to.0 ≡ s = let kept = others.2 in cc in
-    rw (← same) (optional_keeps IsText text text_ok its.Url j url.0 url.1, optional_keeps IsText text text_ok its.Name j name.0 name.1, optional_keeps IsText text text_ok its.Sandbox j sandbox.0 sandbox.1, optional_keeps IsReceiver receiver receiver_ok its.To j to.0 to.1)
+drop_ok : (f : Fields) (s : Step) → (index_alone f >>= λ index. Ok (step.Drop index)) ≡ Ok s → IsStep s
+drop_ok f s e =
+    let index = bind_ok (index_alone f) _ s e in
+    let same : step.Drop index.0 ≡ s = let kept = index.2 in cc in
+    rw (← same) (index_alone_ok f index.0 index.1)
 
-drop_ok : (j : Json) (s : Step) → drop_step j ≡ Ok s → IsStep s
-unfolding drop_step
-drop_ok j s e =
-    let index = bind_ok (field its.Index index_read j) _ s e in
-    let others = bind_ok (no_others (its.Op ∷ its.Index ∷ []) j) _ s index.2 in
-    let same : step.Drop index.0 ≡ s = let kept = others.2 in cc in
-    rw (← same) (field_keeps IsIndex index_read index_ok its.Index j index.0 index.1)
-
-open_ok : (j : Json) (s : Step) → open_step j ≡ Ok s → IsStep s
-unfolding open_step
-open_ok j s e =
-    let url = bind_ok (optional its.Url text j) _ s e in
-    let target = bind_ok (field_or its.Target (codes "_blank") text j) _ s url.2 in
-    let noopener = bind_ok (field_or its.Noopener false truth j) _ s target.2 in
-    let user = bind_ok (field_or its.User false truth j) _ s noopener.2 in
-    let to = bind_ok (optional its.To receiver j) _ s user.2 in
-    let others = bind_ok (no_others (its.Op ∷ its.Url ∷ its.Target ∷ its.Noopener ∷ its.User ∷ its.To ∷ []) j) _ s to.2 in
-    let same : step.Open url.0 target.0 noopener.0 user.0 to.0 ≡ s = let kept = others.2 in cc in
-    rw (← same) (optional_keeps IsText text text_ok its.Url j url.0 url.1, field_or_keeps IsText text text_ok its.Target (codes "_blank") (lit≤ tt) j target.0 target.1, optional_keeps IsReceiver receiver receiver_ok its.To j to.0 to.1)
-
-link_ok : (j : Json) (s : Step) → link_step j ≡ Ok s → IsStep s
-unfolding link_step
-link_ok j s e =
-    let url = bind_ok (field its.Url text j) _ s e in
-    let target = bind_ok (field_or its.Target [] text j) _ s url.2 in
-    let rel = bind_ok (field_or its.Rel [] text j) _ s target.2 in
-    let user = bind_ok (field_or its.User false truth j) _ s rel.2 in
-    let others = bind_ok (no_others (its.Op ∷ its.Url ∷ its.Target ∷ its.Rel ∷ its.User ∷ []) j) _ s user.2 in
-    let same : step.Link url.0 target.0 rel.0 user.0 ≡ s = let kept = others.2 in cc in
-    rw (← same) (field_keeps IsText text text_ok its.Url j url.0 url.1, field_or_keeps IsText text text_ok its.Target [] (lit≤ tt) j target.0 target.1, field_or_keeps IsText text text_ok its.Rel [] (lit≤ tt) j rel.0 rel.1)
-
-by_ok : (name : OpName) (j : Json) (s : Step) → step_by name j ≡ Ok s → IsStep s
+by_ok : (name : OpName) (f : Fields) (s : Step) → step_by name f ≡ Ok s → IsStep s
 unfolding step_by
-by_ok op.Let j s e = let_ok j s e
-by_ok op.Get j s e = get_ok j s e
-by_ok op.Has j s e = has_ok j s e
-by_ok op.Describe j s e = describe_ok j s e
-by_ok op.Keys j s e = keys_ok j s e
-by_ok op.Proto j s e = proto_ok j s e
-by_ok op.SetProto j s e = set_proto_ok j s e
-by_ok op.Extensible j s e = extensible_ok j s e
-by_ok op.Prevent j s e = prevent_ok j s e
-by_ok op.Set j s e = set_ok j s e
-by_ok op.Define j s e = define_ok j s e
-by_ok op.Delete j s e = delete_ok j s e
-by_ok op.Call j s e = call_ok j s e
-by_ok op.Sync j s e = sync_ok j s e
-by_ok op.Frame j s e = frame_ok j s e
-by_ok op.Drop j s e = drop_ok j s e
-by_ok op.Open j s e = open_ok j s e
-by_ok op.Link j s e = link_ok j s e
+by_ok op.Let f s e = let_ok f s e
+by_ok op.Get f s e = get_ok f s e
+by_ok op.Has f s e = key_step_ok (λ of k. step.Has of k) f s (λ _ _ fine. fine) e
+by_ok op.Describe f s e = key_step_ok (λ of k. step.Describe of k) f s (λ _ _ fine. fine) e
+by_ok op.Keys f s e = of_step_ok (λ of. step.Keys of) f s (λ _ fine. fine) e
+by_ok op.Proto f s e = of_step_ok (λ of. step.Proto of) f s (λ _ fine. fine) e
+by_ok op.SetProto f s e = of_step_ok (λ of. step.SetProto of) f s (λ _ fine. fine) e
+by_ok op.Extensible f s e = of_step_ok (λ of. step.Extensible of) f s (λ _ fine. fine) e
+by_ok op.Prevent f s e = of_step_ok (λ of. step.Prevent of) f s (λ _ fine. fine) e
+by_ok op.Set f s e = set_ok f s e
+by_ok op.Define f s e = define_ok f s e
+by_ok op.Delete f s e = key_step_ok (λ of k. step.Delete of k) f s (λ _ _ fine. fine) e
+by_ok op.Call f s e = call_ok f s e
+by_ok op.Sync f s e = sync_ok f s e
+by_ok op.Frame f s e = frame_ok f s e
+by_ok op.Drop f s e = drop_ok f s e
+by_ok op.Open f s e = open_ok f s e
+by_ok op.Link f s e = link_ok f s e
 
 built_ok : (a s : Step) → built_step a ≡ Ok s → (a ≡ s) × (is_built a ≡ true)
 unfolding built_step
@@ -312,11 +288,11 @@ built_ok a s e =
 step_ok : (j : Json) (s : Step) → step_read j ≡ Ok s → IsStep s × (is_built s ≡ true)
 unfolding step_read
 step_ok j s e =
-    let object = bind_ok (an_object j) _ s e in
-    let name = bind_ok (field its.Op op_read j) _ s object.2 in
-    let read = bind_ok (step_by name.0 j) _ s name.2 in
+    let object = bind_ok (fields_of j) _ s e in
+    let name = bind_ok (read_field its.Op op_read object.0) _ s object.2 in
+    let read = bind_ok (step_by name.0.0 name.0.1) _ s name.2 in
     let same = built_ok read.0 s read.2 in
-    rw (← same.0) (by_ok name.0 j read.0 read.1, same.1)
+    rw (← same.0) (by_ok name.0.0 name.0.1 read.0 read.1, same.1)
 
 -- SCRIPTS AND HANDLERS
 
@@ -328,9 +304,9 @@ one_more before j s fine e =
     let read = step_ok j s e in
     (All-push IsStep before s fine.0 read.0, All-push IsBuilt before s fine.1 read.1)
 
-pub steps_ok : (j : Json) (found : List Step) → list_of 0 200 (λ _. step_read) j ≡ Ok found → AreSteps found
+pub steps_ok : (j : Json) (found : List Step) → list_of 0 most_steps (λ _. step_read) j ≡ Ok found → AreSteps found
 steps_ok j found e =
-    let read = list_ok 0 200 (λ _. step_read) j found e in
+    let read = list_ok 0 most_steps (λ _. step_read) j found e in
     let fine = each_keeps AreFine (λ _. step_read) one_more [] read.items.0 found (All-nil IsStep, All-nil IsBuilt) read.items.1 in
     record { few = read.at_most; all = fine.0; built = fine.1 }
 

@@ -11,6 +11,7 @@ use Rattle.agent_terms.specs.declared.step.Operand.TheVariants as operand
 use Rattle.agent_terms.specs.declared.step.Step.{Step}
 use Rattle.agent_terms.specs.declared.step.Step.TheVariants as step
 use Rattle.agent_terms.specs.Built.{IsBuilt, AreBuilt}
+use Rattle.agent_terms.specs.Limits.{most_renderers, most_starts, most_turns, most_pages, most_steps, most_args, most_index}
 use Rattle.plain_data.specs.DataLimits.{most_text, within_limits}
 use Rattle.session_text.specs.Steps.{is_register, is_kept}
 use Rattle.session_text.specs.Session.{is_suffix}
@@ -28,19 +29,19 @@ pub record IsReceiver (name : List ℕ) : Type 0 where
 abbrev pub IsText : List ℕ → Type 0
 IsText s = length s ≤ most_text
 
--- a key is the text of at most 1,024 bytes that names it
+-- a key is the text that names it
 abbrev pub IsKey : Key → Type 0
 IsKey key = length (key_text key) ≤ most_text
 
 abbrev pub IsIndex : ℕ → Type 0
-IsIndex index = index ≤ 20000
+IsIndex index = index ≤ most_index
 
 abbrev pub IsOperand : Operand → Type 0
 IsOperand (operand.Register name) = IsRegister name
 IsOperand (operand.Plain value) = within_limits value ≡ true
 
 pub record AreArgs (args : List Operand) : Type 0 where
-  pub few : length args ≤ 2
+  pub few : length args ≤ most_args
   pub all : All IsOperand args
 
 -- what the step's fields hold is in range
@@ -71,9 +72,9 @@ pub record IsWebUrl (url : List ℕ) : Type 0 where
   pub page : IsPageText url
   pub web : is_web_text url ≡ true
 
--- a script or a handler: at most 200 steps, each one that sessions may have
+-- a script or a handler: not too many steps, each one that sessions may have
 pub record AreSteps (steps : List Step) : Type 0 where
-  pub few : length steps ≤ 200
+  pub few : length steps ≤ most_steps
   pub all : All IsStep steps
   pub built : All IsBuilt steps
 
@@ -93,17 +94,17 @@ has_same_url a b = bytes_eq a.url b.url
 abbrev pub IsSuffix : List ℕ → Type 0
 IsSuffix s = is_suffix s ≡ true
 
--- 1 to 16 renderers, 1 to 64 start windows, and at most 1,000 pages, no two with the same URL
+-- a renderer and a start window at least, and pages, no two with the same URL; all lists within their limits
 pub record IsInRange (s : Session) : Type 0 where
   pub some_renderer : 1 ≤ s.renderers
-  pub renderers : s.renderers ≤ 16
+  pub renderers : s.renderers ≤ most_renderers
   pub suffixes : All IsSuffix s.suffixes
   pub some_start : 1 ≤ length s.start
-  pub starts : length s.start ≤ 64
+  pub starts : length s.start ≤ most_starts
   pub start : All IsWebUrl s.start
-  pub turns : length s.order ≤ 20000
+  pub turns : length s.order ≤ most_turns
   pub order : All (λ r. r < s.renderers) s.order
-  pub most : length s.pages ≤ 1000
+  pub most : length s.pages ≤ most_pages
   pub pages : All IsPage s.pages
   pub apart : IsDistinct has_same_url s.pages
   pub built : AreBuilt s

@@ -8,11 +8,13 @@ use Rattle.origin_core.specs.Page.{read_page, is_web_text, fragment_of}
 use Rattle.agent_terms.specs.declared.session.Session.{Session}
 use Rattle.agent_terms.specs.declared.session.Page.{Page}
 use Rattle.agent_terms.specs.declared.step.Step.{Step}
+use Rattle.agent_terms.specs.Limits.{most_renderers, most_starts, most_turns, most_pages, most_steps, most_suffix}
 use Rattle.session_reading.specs.declared.error.SessionError.TheVariants.{NotJson}
 use Rattle.session_reading.specs.declared.name.Name.{Name}
 use Rattle.session_reading.specs.declared.name.Name.TheVariants as its
 use Rattle.session_reading.specs.Refusing.{Outcome, ◌>>=◌, out_of_range}
-use Rattle.session_reading.specs.Reading.{Json, or_refuse, whole, text, any_list, list_of, field, field_or, an_object, no_others}
+use Rattle.session_reading.specs.Reading.{Json, or_refuse, whole, text, any_list, list_of}
+use Rattle.session_reading.specs.Forms.{Fields, fields_of, read_field, read_field_or, ends}
 use Rattle.session_text.specs.Steps.{step_read, is_letter}
 
 -- URLS (URL Standard, section 4.4, without a base)
@@ -51,7 +53,7 @@ has_labels begins [] = not begins
 has_labels begins (b ∷ bytes) = if b == 46 then not begins && has_labels true bytes else is_label_byte b && has_labels false bytes
 
 unfoldable pub is_suffix : List ℕ → Bool
-is_suffix s = nat_le (length s) 253 && has_labels true s
+is_suffix s = nat_le (length s) most_suffix && has_labels true s
 
 unfoldable pub suffix : Json → Outcome (List ℕ)
 suffix j = do
@@ -61,19 +63,19 @@ suffix j = do
 -- PAGES
 
 abbrev pub steps : Json → Outcome (List Step)
-steps = list_of 0 200 (λ _. step_read)
+steps = list_of 0 most_steps (λ _. step_read)
 
 -- the script, or the handler
-unfoldable pub steps_at : Name → Json → Outcome (List Step)
-steps_at name = field_or name [] steps
+unfoldable pub steps_at : Name → Fields → Outcome (List Step × Fields)
+steps_at name = read_field_or name [] steps
 
 unfoldable pub page_read : List Page → Json → Outcome Page
 page_read before j = do
-  object ← an_object j
-  url ← field its.Url (page_url before) j
-  script ← steps_at its.Script j
-  handler ← steps_at its.Handler j
-  others ← no_others (its.Url ∷ its.Script ∷ its.Handler ∷ []) j
+  f ← fields_of j
+  (url, f) ← read_field its.Url (page_url before) f
+  (script, f) ← steps_at its.Script f
+  (handler, f) ← steps_at its.Handler f
+  others ← ends f
   Ok (record { url = url; script = script; handler = handler })
 
 -- SESSIONS
@@ -82,22 +84,22 @@ page_read before j = do
 abbrev pub renderer_of : ℕ → Json → Outcome ℕ
 renderer_of renderers = whole 0 (renderers - 1)
 
-unfoldable pub suffixes_read : Json → Outcome (List (List ℕ))
-suffixes_read = field_or its.Suffixes [] (any_list (λ _. suffix))
+unfoldable pub suffixes_read : Fields → Outcome (List (List ℕ) × Fields)
+suffixes_read = read_field_or its.Suffixes [] (any_list (λ _. suffix))
 
 -- whose turns come first, told how many renderers there are
-unfoldable pub order_read : ℕ → Json → Outcome (List ℕ)
-order_read renderers = field_or its.Order [] (list_of 0 20000 (λ _. renderer_of renderers))
+unfoldable pub order_read : ℕ → Fields → Outcome (List ℕ × Fields)
+order_read renderers = read_field_or its.Order [] (list_of 0 most_turns (λ _. renderer_of renderers))
 
 unfoldable pub session_read : Json → Outcome Session
 session_read j = do
-  object ← an_object j
-  renderers ← field its.Renderers (whole 1 16) j
-  suffixes ← suffixes_read j
-  start ← field its.Start (list_of 1 64 (λ _. web_url)) j
-  order ← order_read renderers j
-  pages ← field its.Pages (list_of 0 1000 page_read) j
-  others ← no_others (its.Renderers ∷ its.Suffixes ∷ its.Start ∷ its.Order ∷ its.Pages ∷ []) j
+  f ← fields_of j
+  (renderers, f) ← read_field its.Renderers (whole 1 most_renderers) f
+  (suffixes, f) ← suffixes_read f
+  (start, f) ← read_field its.Start (list_of 1 most_starts (λ _. web_url)) f
+  (order, f) ← order_read renderers f
+  (pages, f) ← read_field its.Pages (list_of 0 most_pages page_read) f
+  others ← ends f
   Ok (record { renderers = renderers; suffixes = suffixes; start = start; order = order; lose = []; pages = pages })
 
 -- TEXTS

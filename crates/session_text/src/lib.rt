@@ -15,6 +15,7 @@
 #![tactic(auto)]
 
 mod building;
+mod limits;
 mod page;
 mod session;
 mod step;

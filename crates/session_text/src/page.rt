@@ -2,6 +2,7 @@
 ghost use Rattle.std.specs.Prelude.{◌≡◌, is_some, None, IfOk};
 ghost use Rattle.origin_core.specs.Page.{fragment_of, read_page, IsPageText};
 ghost use Rattle.serde_json.specs.View.{view};
+ghost use Rattle.session_reading.specs.Forms.{Leaves, fields};
 ghost use Rattle.session_reading.specs.Refusing.{Gives};
 ghost use Rattle.session_text.specs.Session as spec;
 
@@ -10,10 +11,7 @@ use agent_terms::{Page, Step};
 use origin_core::{PageUrl, UrlError, read_url};
 use plain_data::Items;
 use serde_json::Value;
-use session_reading::{
-    Name, Reads, ReadsItem, SessionError, field, field_or, no_others, out_of_range, text,
-    wrong_kind,
-};
+use session_reading::{Form, Name, Reads, ReadsItem, SessionError, out_of_range, text};
 use std::alloc::Global;
 
 /// The http or https URL that the value is (URL Standard, section 4.4, without a base).
@@ -79,23 +77,21 @@ fn has_url(pages: &[Page], url: &str) -> bool
 
 // The steps of the field, which may be absent.
 #[tactic(auto, unfolding(crate::specs::Session::steps_at))]
-fn steps_at(alloc: Global, name: Name, value: &Value) -> Result<Items<Step>, SessionError>
-    ensures { Gives result (spec.steps_at name (view value.now)) }
+fn steps_at(form: &mut Form<'_>, name: Name) -> Result<Items<Step>, SessionError>
+    ensures { Leaves result (fields form.new) (spec.steps_at name (fields form.old)) }
 {
-    field_or(alloc, name, Items::new(alloc), &Steps, value)
+    form.field_or(name, Items::new(form.allocator()), &Steps)
 }
 
 #[tactic(auto, unfolding(crate::specs::Session::page_read))]
 fn page_of(alloc: Global, before: &[Page], value: &Value) -> Result<Page, SessionError>
     ensures { Gives result (spec.page_read before.now (view value.now)) }
 {
-    if !value.is_object() {
-        return Err(wrong_kind(alloc));
-    }
-    let url = field(alloc, Name::Url, &NewUrl { before }, value)?;
-    let script = steps_at(alloc, Name::Script, value)?;
-    let handler = steps_at(alloc, Name::Handler, value)?;
-    no_others(alloc, &[Name::Url, Name::Script, Name::Handler], value)?;
+    let mut form = Form::of(alloc, value)?;
+    let url = form.field(Name::Url, &NewUrl { before })?;
+    let script = steps_at(&mut form, Name::Script)?;
+    let handler = steps_at(&mut form, Name::Handler)?;
+    form.ends()?;
     Ok(Page {
         url,
         script,

@@ -2,32 +2,34 @@
 ghost use Rattle.std.specs.Prelude.{◌≡◌, IfOk, All, true};
 ghost use Rattle.origin_core.specs.Page.{IsPageText};
 ghost use Rattle.serde_json.specs.View.{view};
+ghost use Rattle.agent_terms.specs.Limits.{most_renderers, most_starts, most_turns, most_pages};
+ghost use Rattle.session_reading.specs.Forms.{Leaves, fields};
 ghost use Rattle.session_reading.specs.Refusing.{Gives};
 ghost use Rattle.session_reading.specs.Reading as reading;
 ghost use Rattle.session_text.specs.Range.{IsInRange};
 ghost use Rattle.session_text.specs.Session as spec;
 
+use crate::limits::{MAX_PAGES, MAX_RENDERERS, MAX_STARTS, MAX_SUFFIX, MAX_TURNS};
 use crate::page::{APage, tell_text, web_url};
 use agent_terms::{Page, Session};
 use origin_core::{HostText, PageUrl};
 use plain_data::Items;
 use serde_json::Value;
 use session_reading::{
-    Name, Reads, ReadsItem, SessionError, any_list, field, field_or, list_of, no_others,
-    out_of_range, text, whole, wrong_kind,
+    Form, Name, Reads, ReadsItem, SessionError, any_list, list_of, out_of_range, text, whole,
 };
 use std::alloc::Global;
 
-/// Reads the number of renderers, from 1 to 16.
+/// Reads the number of renderers, at least one.
 struct Renderers;
 
 impl Reads for Renderers {
     type Out = u16;
 
-    ghost reads = { λ _. reading.whole 1 16 };
+    ghost reads = { λ _. reading.whole 1 most_renderers };
 
     fn read(&self, alloc: Global, value: &Value) -> Result<u16, SessionError> {
-        match whole(alloc, 1, 16, value) {
+        match whole(alloc, 1, MAX_RENDERERS, value) {
             Ok(n) => Ok(n as u16),
             Err(e) => Err(e),
         }
@@ -61,7 +63,7 @@ impl ReadsItem for ASuffix {
 fn is_suffix(text: &str) -> bool
     ensures { result ≡ spec.is_suffix text.now }
 {
-    text.len() <= 253 && has_labels(text.as_bytes())
+    text.len() <= MAX_SUFFIX && has_labels(text.as_bytes())
 }
 
 // Whether the text is labels with single dots between them.
@@ -127,18 +129,18 @@ impl ReadsItem for StartUrl {
     }
 }
 
-/// Reads the URLs that the start windows load, from 1 to 64.
+/// Reads the URLs that the start windows load, at least one.
 struct Start;
 
 impl Reads for Start {
     type Out = Items<PageUrl>;
 
-    ghost reads = { λ _. reading.list_of 1 64 (λ _. spec.web_url) };
+    ghost reads = { λ _. reading.list_of 1 most_starts (λ _. spec.web_url) };
 
     ghost holds = { All IsPageText };
 
     fn read(&self, alloc: Global, value: &Value) -> Result<Items<PageUrl>, SessionError> {
-        list_of(alloc, 1, 64, &StartUrl, value)
+        list_of(alloc, 1, MAX_STARTS, &StartUrl, value)
     }
 }
 
@@ -166,7 +168,7 @@ impl ReadsItem for ARenderer {
     }
 }
 
-/// Reads whose turns come first, at most 20,000.
+/// Reads whose turns come first.
 #[derive(Drop)]
 struct Order {
     renderers: u16,
@@ -175,48 +177,46 @@ struct Order {
 impl Reads for Order {
     type Out = Items<u16>;
 
-    ghost reads = { λ o. reading.list_of 0 20000 (λ _. spec.renderer_of o.renderers) };
+    ghost reads = { λ o. reading.list_of 0 most_turns (λ _. spec.renderer_of o.renderers) };
 
     fn read(&self, alloc: Global, value: &Value) -> Result<Items<u16>, SessionError> {
         let item = ARenderer {
             renderers: self.renderers,
         };
-        list_of(alloc, 0, 20000, &item, value)
+        list_of(alloc, 0, MAX_TURNS, &item, value)
     }
 }
 
-/// Reads the pages, at most 1,000.
+/// Reads the pages.
 struct Pages;
 
 impl Reads for Pages {
     type Out = Items<Page>;
 
-    ghost reads = { λ _. reading.list_of 0 1000 spec.page_read };
+    ghost reads = { λ _. reading.list_of 0 most_pages spec.page_read };
 
     ghost holds = { All (λ page. IsPageText page.url) };
 
     fn read(&self, alloc: Global, value: &Value) -> Result<Items<Page>, SessionError> {
-        list_of(alloc, 0, 1000, &APage, value)
+        list_of(alloc, 0, MAX_PAGES, &APage, value)
     }
 }
 
 #[tactic(auto, unfolding(crate::specs::Session::suffixes_read))]
-fn suffixes_of(alloc: Global, value: &Value) -> Result<Items<HostText>, SessionError>
-    ensures { Gives result (spec.suffixes_read (view value.now)) }
+fn suffixes_of(form: &mut Form<'_>) -> Result<Items<HostText>, SessionError>
+    ensures { Leaves result (fields form.new) (spec.suffixes_read (fields form.old)) }
 {
-    field_or(alloc, Name::Suffixes, Items::new(alloc), &Suffixes, value)
+    form.field_or(Name::Suffixes, Items::new(form.allocator()), &Suffixes)
 }
 
 #[tactic(auto, unfolding(crate::specs::Session::order_read))]
-fn order_of(alloc: Global, renderers: u16, value: &Value) -> Result<Items<u16>, SessionError>
-    ensures { Gives result (spec.order_read renderers (view value.now)) }
+fn order_of(form: &mut Form<'_>, renderers: u16) -> Result<Items<u16>, SessionError>
+    ensures { Leaves result (fields form.new) (spec.order_read renderers (fields form.old)) }
 {
-    field_or(
-        alloc,
+    form.field_or(
         Name::Order,
-        Items::new(alloc),
+        Items::new(form.allocator()),
         &Order { renderers },
-        value,
     )
 }
 
@@ -226,22 +226,13 @@ fn session_of(alloc: Global, value: &Value) -> Result<Session, SessionError>
     ensures start { IfOk result (λ s. All IsPageText s.start) }
     ensures pages { IfOk result (λ s. All (λ page. IsPageText page.url) s.pages) }
 {
-    if !value.is_object() {
-        return Err(wrong_kind(alloc));
-    }
-    let renderers = field(alloc, Name::Renderers, &Renderers, value)?;
-    let suffixes = suffixes_of(alloc, value)?;
-    let start = field(alloc, Name::Start, &Start, value)?;
-    let order = order_of(alloc, renderers, value)?;
-    let pages = field(alloc, Name::Pages, &Pages, value)?;
-    let known = [
-        Name::Renderers,
-        Name::Suffixes,
-        Name::Start,
-        Name::Order,
-        Name::Pages,
-    ];
-    no_others(alloc, &known, value)?;
+    let mut form = Form::of(alloc, value)?;
+    let renderers = form.field(Name::Renderers, &Renderers)?;
+    let suffixes = suffixes_of(&mut form)?;
+    let start = form.field(Name::Start, &Start)?;
+    let order = order_of(&mut form, renderers)?;
+    let pages = form.field(Name::Pages, &Pages)?;
+    form.ends()?;
     Ok(Session {
         renderers,
         suffixes,

@@ -1,193 +1,91 @@
 // Readers of steps, each of its fields in their order.
-ghost use Rattle.std.specs.Prelude.{◌≡◌, codes};
+ghost use Rattle.std.specs.Prelude.{◌≡◌};
 ghost use Rattle.serde_json.specs.View.{view};
+ghost use Rattle.session_reading.specs.Forms.{fields};
 ghost use Rattle.session_reading.specs.Refusing.{Gives};
 ghost use Rattle.session_reading.specs.Reading as reading;
 ghost use Rattle.session_text.specs.Session.{steps};
 ghost use Rattle.session_text.specs.Steps as spec;
 
 use crate::building::built;
+use crate::limits::MAX_STEPS;
 use crate::value::{AKey, AReceiver, ARegister, AText, ATruth, AnIndex, AnOperand, Args};
 use agent_terms::{OpName, Step};
 use plain_data::{Items, Text};
 use serde_json::Value;
-use session_reading::{
-    Name, Reads, ReadsItem, SessionError, field, field_or, list_of, no_others, optional, text,
-    unknown_step, wrong_kind,
-};
+use session_reading::{Form, Name, Reads, ReadsItem, SessionError, list_of, text, unknown_step};
 use std::alloc::Global;
+use window_props::Key;
 
 #[tactic(auto, unfolding(crate::specs::Steps::let_step))]
-fn let_step(alloc: Global, value: &Value) -> Result<Step, SessionError>
-    ensures { Gives result (spec.let_step (view value.now)) }
+fn let_step(form: &mut Form<'_>) -> Result<Step, SessionError>
+    ensures { Gives result (spec.let_step (fields form.old)) }
 {
-    let to = optional(alloc, Name::To, &AReceiver, value)?;
-    let held = field(alloc, Name::Value, &AnOperand, value)?;
-    no_others(alloc, &[Name::Op, Name::To, Name::Value], value)?;
-    Ok(Step::Let { to, value: held })
+    let to = form.optional(Name::To, &AReceiver)?;
+    let value = form.field(Name::Value, &AnOperand)?;
+    form.ends()?;
+    Ok(Step::Let { to, value })
 }
 
 #[tactic(auto, unfolding(crate::specs::Steps::get_step))]
-fn get_step(alloc: Global, value: &Value) -> Result<Step, SessionError>
-    ensures { Gives result (spec.get_step (view value.now)) }
+fn get_step(form: &mut Form<'_>) -> Result<Step, SessionError>
+    ensures { Gives result (spec.get_step (fields form.old)) }
 {
-    let of = field(alloc, Name::Of, &ARegister, value)?;
-    let key = field(alloc, Name::Key, &AKey, value)?;
-    let to = optional(alloc, Name::To, &AReceiver, value)?;
-    no_others(alloc, &[Name::Op, Name::Of, Name::Key, Name::To], value)?;
+    let of = form.field(Name::Of, &ARegister)?;
+    let key = form.field(Name::Key, &AKey)?;
+    let to = form.optional(Name::To, &AReceiver)?;
+    form.ends()?;
     Ok(Step::Get { of, key, to })
 }
 
-#[tactic(auto, unfolding(crate::specs::Steps::has_step))]
-fn has_step(alloc: Global, value: &Value) -> Result<Step, SessionError>
-    ensures { Gives result (spec.has_step (view value.now)) }
-{
-    let of = field(alloc, Name::Of, &ARegister, value)?;
-    let key = field(alloc, Name::Key, &AKey, value)?;
-    no_others(alloc, &[Name::Op, Name::Of, Name::Key], value)?;
-    Ok(Step::Has { of, key })
-}
-
-#[tactic(auto, unfolding(crate::specs::Steps::describe_step))]
-fn describe_step(alloc: Global, value: &Value) -> Result<Step, SessionError>
-    ensures { Gives result (spec.describe_step (view value.now)) }
-{
-    let of = field(alloc, Name::Of, &ARegister, value)?;
-    let key = field(alloc, Name::Key, &AKey, value)?;
-    no_others(alloc, &[Name::Op, Name::Of, Name::Key], value)?;
-    Ok(Step::Describe { of, key })
-}
-
-#[tactic(auto, unfolding(crate::specs::Steps::keys_step))]
-fn keys_step(alloc: Global, value: &Value) -> Result<Step, SessionError>
-    ensures { Gives result (spec.keys_step (view value.now)) }
-{
-    let of = field(alloc, Name::Of, &ARegister, value)?;
-    no_others(alloc, &[Name::Op, Name::Of], value)?;
-    Ok(Step::Keys { of })
-}
-
-#[tactic(auto, unfolding(crate::specs::Steps::proto_step))]
-fn proto_step(alloc: Global, value: &Value) -> Result<Step, SessionError>
-    ensures { Gives result (spec.proto_step (view value.now)) }
-{
-    let of = field(alloc, Name::Of, &ARegister, value)?;
-    no_others(alloc, &[Name::Op, Name::Of], value)?;
-    Ok(Step::Proto { of })
-}
-
-#[tactic(auto, unfolding(crate::specs::Steps::set_proto_step))]
-fn set_proto_step(alloc: Global, value: &Value) -> Result<Step, SessionError>
-    ensures { Gives result (spec.set_proto_step (view value.now)) }
-{
-    let of = field(alloc, Name::Of, &ARegister, value)?;
-    no_others(alloc, &[Name::Op, Name::Of], value)?;
-    Ok(Step::SetProto { of })
-}
-
-#[tactic(auto, unfolding(crate::specs::Steps::extensible_step))]
-fn extensible_step(alloc: Global, value: &Value) -> Result<Step, SessionError>
-    ensures { Gives result (spec.extensible_step (view value.now)) }
-{
-    let of = field(alloc, Name::Of, &ARegister, value)?;
-    no_others(alloc, &[Name::Op, Name::Of], value)?;
-    Ok(Step::Extensible { of })
-}
-
-#[tactic(auto, unfolding(crate::specs::Steps::prevent_step))]
-fn prevent_step(alloc: Global, value: &Value) -> Result<Step, SessionError>
-    ensures { Gives result (spec.prevent_step (view value.now)) }
-{
-    let of = field(alloc, Name::Of, &ARegister, value)?;
-    no_others(alloc, &[Name::Op, Name::Of], value)?;
-    Ok(Step::Prevent { of })
-}
-
 #[tactic(auto, unfolding(crate::specs::Steps::set_step))]
-fn set_step(alloc: Global, value: &Value) -> Result<Step, SessionError>
-    ensures { Gives result (spec.set_step (view value.now)) }
+fn set_step(form: &mut Form<'_>) -> Result<Step, SessionError>
+    ensures { Gives result (spec.set_step (fields form.old)) }
 {
-    let of = field(alloc, Name::Of, &ARegister, value)?;
-    let key = field(alloc, Name::Key, &AKey, value)?;
-    let held = field(alloc, Name::Value, &AnOperand, value)?;
-    let user = field_or(alloc, Name::User, false, &ATruth, value)?;
-    no_others(
-        alloc,
-        &[Name::Op, Name::Of, Name::Key, Name::Value, Name::User],
-        value,
-    )?;
+    let of = form.field(Name::Of, &ARegister)?;
+    let key = form.field(Name::Key, &AKey)?;
+    let value = form.field(Name::Value, &AnOperand)?;
+    let user = form.field_or(Name::User, false, &ATruth)?;
+    form.ends()?;
     Ok(Step::Set {
         of,
         key,
-        value: held,
+        value,
         user,
     })
 }
 
 #[tactic(auto, unfolding(crate::specs::Steps::define_step))]
-fn define_step(alloc: Global, value: &Value) -> Result<Step, SessionError>
-    ensures { Gives result (spec.define_step (view value.now)) }
+fn define_step(form: &mut Form<'_>) -> Result<Step, SessionError>
+    ensures { Gives result (spec.define_step (fields form.old)) }
 {
-    let of = field(alloc, Name::Of, &ARegister, value)?;
-    let key = field(alloc, Name::Key, &AKey, value)?;
-    let held = optional(alloc, Name::Value, &AnOperand, value)?;
-    let writable = optional(alloc, Name::Writable, &ATruth, value)?;
-    let enumerable = optional(alloc, Name::Enumerable, &ATruth, value)?;
-    let configurable = optional(alloc, Name::Configurable, &ATruth, value)?;
-    no_others(
-        alloc,
-        &[
-            Name::Op,
-            Name::Of,
-            Name::Key,
-            Name::Value,
-            Name::Writable,
-            Name::Enumerable,
-            Name::Configurable,
-        ],
-        value,
-    )?;
+    let of = form.field(Name::Of, &ARegister)?;
+    let key = form.field(Name::Key, &AKey)?;
+    let value = form.optional(Name::Value, &AnOperand)?;
+    let writable = form.optional(Name::Writable, &ATruth)?;
+    let enumerable = form.optional(Name::Enumerable, &ATruth)?;
+    let configurable = form.optional(Name::Configurable, &ATruth)?;
+    form.ends()?;
     Ok(Step::Define {
         of,
         key,
-        value: held,
+        value,
         writable,
         enumerable,
         configurable,
     })
 }
 
-#[tactic(auto, unfolding(crate::specs::Steps::delete_step))]
-fn delete_step(alloc: Global, value: &Value) -> Result<Step, SessionError>
-    ensures { Gives result (spec.delete_step (view value.now)) }
-{
-    let of = field(alloc, Name::Of, &ARegister, value)?;
-    let key = field(alloc, Name::Key, &AKey, value)?;
-    no_others(alloc, &[Name::Op, Name::Of, Name::Key], value)?;
-    Ok(Step::Delete { of, key })
-}
-
 #[tactic(auto, unfolding(crate::specs::Steps::call_step))]
-fn call_step(alloc: Global, value: &Value) -> Result<Step, SessionError>
-    ensures { Gives result (spec.call_step (view value.now)) }
+fn call_step(form: &mut Form<'_>) -> Result<Step, SessionError>
+    ensures { Gives result (spec.call_step (fields form.old)) }
 {
-    let of = field(alloc, Name::Of, &ARegister, value)?;
-    let key = field(alloc, Name::Key, &AKey, value)?;
-    let args = field(alloc, Name::Args, &Args, value)?;
-    let to = optional(alloc, Name::To, &AReceiver, value)?;
-    let user = field_or(alloc, Name::User, false, &ATruth, value)?;
-    no_others(
-        alloc,
-        &[
-            Name::Op,
-            Name::Of,
-            Name::Key,
-            Name::Args,
-            Name::To,
-            Name::User,
-        ],
-        value,
-    )?;
+    let of = form.field(Name::Of, &ARegister)?;
+    let key = form.field(Name::Key, &AKey)?;
+    let args = form.field(Name::Args, &Args)?;
+    let to = form.optional(Name::To, &AReceiver)?;
+    let user = form.field_or(Name::User, false, &ATruth)?;
+    form.ends()?;
     Ok(Step::Call {
         of,
         key,
@@ -197,27 +95,15 @@ fn call_step(alloc: Global, value: &Value) -> Result<Step, SessionError>
     })
 }
 
-#[tactic(auto, unfolding(crate::specs::Steps::sync_step))]
-fn sync_step(alloc: Global, value: &Value) -> Result<Step, SessionError>
-    ensures { Gives result (spec.sync_step (view value.now)) }
-{
-    no_others(alloc, &[Name::Op], value)?;
-    Ok(Step::Sync)
-}
-
 #[tactic(auto, unfolding(crate::specs::Steps::frame_step))]
-fn frame_step(alloc: Global, value: &Value) -> Result<Step, SessionError>
-    ensures { Gives result (spec.frame_step (view value.now)) }
+fn frame_step(form: &mut Form<'_>) -> Result<Step, SessionError>
+    ensures { Gives result (spec.frame_step (fields form.old)) }
 {
-    let url = optional(alloc, Name::Url, &AText, value)?;
-    let name = optional(alloc, Name::Name, &AText, value)?;
-    let sandbox = optional(alloc, Name::Sandbox, &AText, value)?;
-    let to = optional(alloc, Name::To, &AReceiver, value)?;
-    no_others(
-        alloc,
-        &[Name::Op, Name::Url, Name::Name, Name::Sandbox, Name::To],
-        value,
-    )?;
+    let url = form.optional(Name::Url, &AText)?;
+    let name = form.optional(Name::Name, &AText)?;
+    let sandbox = form.optional(Name::Sandbox, &AText)?;
+    let to = form.optional(Name::To, &AReceiver)?;
+    form.ends()?;
     Ok(Step::Frame {
         url,
         name,
@@ -226,37 +112,17 @@ fn frame_step(alloc: Global, value: &Value) -> Result<Step, SessionError>
     })
 }
 
-#[tactic(auto, unfolding(crate::specs::Steps::drop_step))]
-fn drop_step(alloc: Global, value: &Value) -> Result<Step, SessionError>
-    ensures { Gives result (spec.drop_step (view value.now)) }
-{
-    let index = field(alloc, Name::Index, &AnIndex, value)?;
-    no_others(alloc, &[Name::Op, Name::Index], value)?;
-    Ok(Step::Drop { index })
-}
-
 #[tactic(auto, unfolding(crate::specs::Steps::open_step))]
-fn open_step(alloc: Global, value: &Value) -> Result<Step, SessionError>
-    ensures { Gives result (spec.open_step (view value.now)) }
+fn open_step(form: &mut Form<'_>) -> Result<Step, SessionError>
+    ensures { Gives result (spec.open_step (fields form.old)) }
 {
-    let url = optional(alloc, Name::Url, &AText, value)?;
-    let absent = Text::copy_of(alloc, "_blank")?;
-    let target = field_or(alloc, Name::Target, absent, &AText, value)?;
-    let noopener = field_or(alloc, Name::Noopener, false, &ATruth, value)?;
-    let user = field_or(alloc, Name::User, false, &ATruth, value)?;
-    let to = optional(alloc, Name::To, &AReceiver, value)?;
-    no_others(
-        alloc,
-        &[
-            Name::Op,
-            Name::Url,
-            Name::Target,
-            Name::Noopener,
-            Name::User,
-            Name::To,
-        ],
-        value,
-    )?;
+    let url = form.optional(Name::Url, &AText)?;
+    let absent = Text::copy_of(form.allocator(), "_blank")?;
+    let target = form.field_or(Name::Target, absent, &AText)?;
+    let noopener = form.field_or(Name::Noopener, false, &ATruth)?;
+    let user = form.field_or(Name::User, false, &ATruth)?;
+    let to = form.optional(Name::To, &AReceiver)?;
+    form.ends()?;
     Ok(Step::Open {
         url,
         target,
@@ -267,20 +133,16 @@ fn open_step(alloc: Global, value: &Value) -> Result<Step, SessionError>
 }
 
 #[tactic(auto, unfolding(crate::specs::Steps::link_step))]
-fn link_step(alloc: Global, value: &Value) -> Result<Step, SessionError>
-    ensures { Gives result (spec.link_step (view value.now)) }
+fn link_step(form: &mut Form<'_>) -> Result<Step, SessionError>
+    ensures { Gives result (spec.link_step (fields form.old)) }
 {
-    let url = field(alloc, Name::Url, &AText, value)?;
-    let absent = Text::copy_of(alloc, "")?;
-    let target = field_or(alloc, Name::Target, absent, &AText, value)?;
-    let absent = Text::copy_of(alloc, "")?;
-    let rel = field_or(alloc, Name::Rel, absent, &AText, value)?;
-    let user = field_or(alloc, Name::User, false, &ATruth, value)?;
-    no_others(
-        alloc,
-        &[Name::Op, Name::Url, Name::Target, Name::Rel, Name::User],
-        value,
-    )?;
+    let url = form.field(Name::Url, &AText)?;
+    let absent = Text::copy_of(form.allocator(), "")?;
+    let target = form.field_or(Name::Target, absent, &AText)?;
+    let absent = Text::copy_of(form.allocator(), "")?;
+    let rel = form.field_or(Name::Rel, absent, &AText)?;
+    let user = form.field_or(Name::User, false, &ATruth)?;
+    form.ends()?;
     Ok(Step::Link {
         url,
         target,
@@ -289,31 +151,35 @@ fn link_step(alloc: Global, value: &Value) -> Result<Step, SessionError>
     })
 }
 
-#[tactic(auto, unfolding(crate::specs::Steps::op_of))]
-fn op_of(name: &str) -> Option<OpName>
-    ensures { result ≡ spec.op_of name.now }
+// The object of a step that has no other field.
+#[tactic(auto, unfolding(crate::specs::Steps::of_alone))]
+fn of_alone(form: &mut Form<'_>) -> Result<Text, SessionError>
+    ensures { Gives result (spec.of_alone (fields form.old)) }
 {
-    match name {
-        "let" => Some(OpName::Let),
-        "get" => Some(OpName::Get),
-        "has" => Some(OpName::Has),
-        "describe" => Some(OpName::Describe),
-        "keys" => Some(OpName::Keys),
-        "proto" => Some(OpName::Proto),
-        "setproto" => Some(OpName::SetProto),
-        "extensible" => Some(OpName::Extensible),
-        "prevent" => Some(OpName::Prevent),
-        "set" => Some(OpName::Set),
-        "define" => Some(OpName::Define),
-        "delete" => Some(OpName::Delete),
-        "call" => Some(OpName::Call),
-        "sync" => Some(OpName::Sync),
-        "frame" => Some(OpName::Frame),
-        "drop" => Some(OpName::Drop),
-        "open" => Some(OpName::Open),
-        "link" => Some(OpName::Link),
-        _ => None,
-    }
+    let of = form.field(Name::Of, &ARegister)?;
+    form.ends()?;
+    Ok(of)
+}
+
+// The object and the key of a step that has no other field.
+#[tactic(auto, unfolding(crate::specs::Steps::of_and_key))]
+fn of_and_key(form: &mut Form<'_>) -> Result<(Text, Key), SessionError>
+    ensures { Gives result (spec.of_and_key (fields form.old)) }
+{
+    let of = form.field(Name::Of, &ARegister)?;
+    let key = form.field(Name::Key, &AKey)?;
+    form.ends()?;
+    Ok((of, key))
+}
+
+// The index of a step that has no other field.
+#[tactic(auto, unfolding(crate::specs::Steps::index_alone))]
+fn index_alone(form: &mut Form<'_>) -> Result<u32, SessionError>
+    ensures { Gives result (spec.index_alone (fields form.old)) }
+{
+    let index = form.field(Name::Index, &AnIndex)?;
+    form.ends()?;
+    Ok(index)
 }
 
 /// Reads the name of a step.
@@ -327,7 +193,7 @@ impl Reads for AnOpName {
     #[tactic(auto, unfolding(crate::specs::Steps::op_read))]
     fn read(&self, alloc: Global, value: &Value) -> Result<OpName, SessionError> {
         let name = text(alloc, value)?;
-        match op_of(name) {
+        match OpName::named(name) {
             Some(op) => Ok(op),
             None => Err(unknown_step(alloc)),
         }
@@ -335,28 +201,52 @@ impl Reads for AnOpName {
 }
 
 #[tactic(auto, unfolding(crate::specs::Steps::step_by))]
-fn step_by(alloc: Global, op: OpName, value: &Value) -> Result<Step, SessionError>
-    ensures { Gives result (spec.step_by op (view value.now)) }
+fn step_by(op: OpName, form: &mut Form<'_>) -> Result<Step, SessionError>
+    ensures { Gives result (spec.step_by op (fields form.old)) }
 {
     match op {
-        OpName::Let => let_step(alloc, value),
-        OpName::Get => get_step(alloc, value),
-        OpName::Has => has_step(alloc, value),
-        OpName::Describe => describe_step(alloc, value),
-        OpName::Keys => keys_step(alloc, value),
-        OpName::Proto => proto_step(alloc, value),
-        OpName::SetProto => set_proto_step(alloc, value),
-        OpName::Extensible => extensible_step(alloc, value),
-        OpName::Prevent => prevent_step(alloc, value),
-        OpName::Set => set_step(alloc, value),
-        OpName::Define => define_step(alloc, value),
-        OpName::Delete => delete_step(alloc, value),
-        OpName::Call => call_step(alloc, value),
-        OpName::Sync => sync_step(alloc, value),
-        OpName::Frame => frame_step(alloc, value),
-        OpName::Drop => drop_step(alloc, value),
-        OpName::Open => open_step(alloc, value),
-        OpName::Link => link_step(alloc, value),
+        OpName::Let => let_step(form),
+        OpName::Get => get_step(form),
+        OpName::Has => {
+            let (of, key) = of_and_key(form)?;
+            Ok(Step::Has { of, key })
+        }
+        OpName::Describe => {
+            let (of, key) = of_and_key(form)?;
+            Ok(Step::Describe { of, key })
+        }
+        OpName::Keys => Ok(Step::Keys {
+            of: of_alone(form)?,
+        }),
+        OpName::Proto => Ok(Step::Proto {
+            of: of_alone(form)?,
+        }),
+        OpName::SetProto => Ok(Step::SetProto {
+            of: of_alone(form)?,
+        }),
+        OpName::Extensible => Ok(Step::Extensible {
+            of: of_alone(form)?,
+        }),
+        OpName::Prevent => Ok(Step::Prevent {
+            of: of_alone(form)?,
+        }),
+        OpName::Set => set_step(form),
+        OpName::Define => define_step(form),
+        OpName::Delete => {
+            let (of, key) = of_and_key(form)?;
+            Ok(Step::Delete { of, key })
+        }
+        OpName::Call => call_step(form),
+        OpName::Sync => {
+            form.ends()?;
+            Ok(Step::Sync)
+        }
+        OpName::Frame => frame_step(form),
+        OpName::Drop => Ok(Step::Drop {
+            index: index_alone(form)?,
+        }),
+        OpName::Open => open_step(form),
+        OpName::Link => link_step(form),
     }
 }
 
@@ -374,11 +264,9 @@ fn built_step(alloc: Global, step: Step) -> Result<Step, SessionError>
 fn step_of(alloc: Global, value: &Value) -> Result<Step, SessionError>
     ensures { Gives result (spec.step_read (view value.now)) }
 {
-    if !value.is_object() {
-        return Err(wrong_kind(alloc));
-    }
-    let op = field(alloc, Name::Op, &AnOpName, value)?;
-    let step = step_by(alloc, op, value)?;
+    let mut form = Form::of(alloc, value)?;
+    let op = form.field(Name::Op, &AnOpName)?;
+    let step = step_by(op, &mut form)?;
     built_step(alloc, step)
 }
 
@@ -400,7 +288,7 @@ impl ReadsItem for AStep {
     }
 }
 
-/// Reads the steps of a script or a handler, at most 200.
+/// Reads the steps of a script or a handler.
 pub(crate) struct Steps;
 
 impl Reads for Steps {
@@ -409,6 +297,6 @@ impl Reads for Steps {
     ghost reads = { λ _. steps };
 
     fn read(&self, alloc: Global, value: &Value) -> Result<Items<Step>, SessionError> {
-        list_of(alloc, 0, 200, &AStep, value)
+        list_of(alloc, 0, MAX_STEPS, &AStep, value)
     }
 }

@@ -6,6 +6,7 @@ ghost use Rattle.session_reading.specs.Refusing.{Gives};
 ghost use Rattle.session_reading.specs.Reading as reading;
 ghost use Rattle.session_text.specs.Steps as spec;
 
+use crate::limits::{MAX_ARGS, MAX_INDEX, MAX_LETTERS};
 use agent_terms::Operand;
 use plain_data::{Items, Text};
 use serde_json::Value;
@@ -15,7 +16,7 @@ use session_reading::{
 use std::alloc::Global;
 use window_props::Key;
 
-/// Reads a text of at most 1,024 bytes.
+/// Reads a text.
 pub(crate) struct AText;
 
 impl Reads for AText {
@@ -57,7 +58,7 @@ impl Reads for AKey {
     }
 }
 
-/// Reads the index of a frame, from 0 to 20,000.
+/// Reads the index of a frame.
 pub(crate) struct AnIndex;
 
 impl Reads for AnIndex {
@@ -66,7 +67,7 @@ impl Reads for AnIndex {
     ghost reads = { λ _. spec.index_read };
 
     fn read(&self, alloc: Global, value: &Value) -> Result<u32, SessionError> {
-        match whole(alloc, 0, 20000, value) {
+        match whole(alloc, 0, MAX_INDEX, value) {
             Ok(n) => Ok(n as u32),
             Err(e) => Err(e),
         }
@@ -119,7 +120,7 @@ fn register(alloc: Global, value: &Value) -> Result<Text, SessionError>
 fn is_register(text: &str) -> bool
     ensures { result ≡ spec.is_register text.now }
 {
-    1 <= text.len() && text.len() <= 16 && are_letters(text.as_bytes())
+    1 <= text.len() && text.len() <= MAX_LETTERS && are_letters(text.as_bytes())
 }
 
 fn are_letters(bytes: &[u8]) -> bool
@@ -163,7 +164,7 @@ impl ReadsItem for AnOperand {
     }
 }
 
-/// Reads the arguments of a call, at most two.
+/// Reads the arguments of a call.
 pub(crate) struct Args;
 
 impl Reads for Args {
@@ -172,7 +173,7 @@ impl Reads for Args {
     ghost reads = { λ _. spec.args_read };
 
     fn read(&self, alloc: Global, value: &Value) -> Result<Items<Operand>, SessionError> {
-        list_of(alloc, 0, 2, &AnOperand, value)
+        list_of(alloc, 0, MAX_ARGS, &AnOperand, value)
     }
 }
 

@@ -1,7 +1,10 @@
+ghost use Rattle.std.specs.Prelude.{IsTrue};
+ghost use Rattle.tree_log.specs.Range.{HasAscendingKeys};
+
 use origin_core::{Flags, Origin, PageUrl, flags_of, read_url, url_origin};
-use plain_data::{Data, Items, Text};
+use plain_data::{Data, Items, Text, keys_ascend};
 use std::alloc::Global;
-use tree_log::{Cause, Entry, Load, Log, Target, What};
+use tree_log::{Cause, Entry, Load, Log, Target, What, blank, kept_for_renderer};
 
 type Happened = Vec<(Option<u16>, Option<u32>, What)>;
 
@@ -26,14 +29,40 @@ fn token(alloc: Global) -> Option<Data> {
     Some(Data::Record(members))
 }
 
+/// Whether the keys of each record in posted data ascend, as a log asks for.
+fn has_ascending_keys(what: &What) -> bool
+    ensures { IsTrue result → HasAscendingKeys what.now }
+{
+    match what {
+        What::Post { body, .. } => keys_ascend(body),
+        _ => true,
+    }
+}
+
+/// Appends an entry to a log of fewer than a hundred.
+fn add(log: &mut Log, entry: Entry) -> Option<()> {
+    if log.len() >= 100 || !has_ascending_keys(&entry.what) {
+        return None;
+    }
+    log.push(entry).ok()
+}
+
 fn log_of(alloc: Global, happened: Happened) -> Option<Log> {
     let mut log = Log::new(alloc);
     for (by, actor, what) in happened {
-        if log.len() < 100 {
-            log.push(Entry { by, actor, what }).ok()?;
-        }
+        add(&mut log, Entry { by, actor, what })?;
     }
     Some(log)
+}
+
+/// The log as it may be shown to a renderer.
+pub fn shown_to(alloc: Global, log: &Log, renderer: u16) -> Option<Log> {
+    let kept = kept_for_renderer(alloc, log, renderer).ok()?;
+    let mut shown = Log::new(alloc);
+    for entry in log.entries() {
+        add(&mut shown, blank(alloc, entry, &kept).ok()?)?;
+    }
+    Some(shown)
 }
 
 /// The log of a window that holds a sandboxed frame, which posts a message to it and opens a window.

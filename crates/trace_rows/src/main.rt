@@ -1,4 +1,5 @@
-//! Prints two small logs with every kind of entry, a record with every step, answer and task, and the line of each status.
+//! Prints two small logs with every kind of entry, the first as two renderers may see it, a record with every step, answer and
+//! task, and the line of each status.
 //!
 //! Its `stdout` has the lines that were written by hand from the formats (`docs/FORMATS.md`), so each run compares
 //! `trace_text` with them. Statuses have their number in front, since two of them print nothing.
@@ -33,10 +34,17 @@ fn text_of(alloc: Global, log: Option<Log>) -> io::Result<Text> {
     Ok(log_text(alloc, &log)?)
 }
 
+/// The first log, as a renderer may see it.
+fn shown_run(alloc: Global, renderer: u16) -> Option<Log> {
+    logs::shown_to(alloc, &logs::run(alloc)?, renderer)
+}
+
 fn main(rt: HostRuntime) -> io::Result<()> {
     let alloc = rt.alloc();
     for log in [
         logs::run(alloc),
+        shown_run(alloc, 0),
+        shown_run(alloc, 1),
         logs::other_kinds(alloc),
         Some(Log::new(alloc)),
     ] {

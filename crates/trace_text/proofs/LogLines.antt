@@ -3,7 +3,8 @@ use Rattle.std.proofs.Common.{◌≡◌, ℕ, ◌<◌, ◌≤◌, codes, decimal
 use Rattle.std.proofs.lemmas.List.{take_more, length-reverse}
 use Rattle.std.proofs.lemmas.Grind.{common_steps}
 use Rattle.tree_log.specs.declared.entry.Entry.{Entry}
-use Rattle.trace_text.specs.LogText.{◌◊◌, log_lines, entry_line, log_words}
+use Rattle.origin_core.specs.Flags.{◌◊◌}
+use Rattle.trace_text.specs.LogText.{log_lines, entry_line, log_words}
 use Rattle.tree_log.proofs.Places.{reverse_push}
 
 first_so_many : (entries : List Entry) (i : ℕ) → i < length entries → length (reverse (take i entries)) ≡ i

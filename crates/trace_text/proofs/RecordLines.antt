@@ -1,7 +1,7 @@
 -- The lines of a record, an act at a time.
 use Rattle.std.proofs.Common.{◌≡◌, ℕ, ◌+◌, ◌<◌, ◌≤◌, List, [], ◌∷◌, ◌++◌, length, reverse, take, get_or, codes, decimal, sym, ap, ◌∙◌, take_all}
 use Rattle.std.proofs.lemmas.List.{take_more, length-reverse, reverse-append}
-use Rattle.trace_text.specs.LogText.{◌◊◌}
+use Rattle.origin_core.specs.Flags.{◌◊◌}
 use Rattle.agent_terms.specs.declared.act.Act.{Act}
 use Rattle.trace_text.specs.RecordText.{act_line, act_lines, record_words}
 

@@ -1,21 +1,16 @@
 -- How a log prints: a line for each entry, the oldest first. The texts are this project's own.
-use Rattle.std.specs.Prelude.{ℕ, List, [], ◌∷◌, ◌++◌, length, Option, Some, None, codes, decimal}
+use Rattle.std.specs.Prelude.{ℕ, List, [], ◌∷◌, length, Option, Some, None, codes, decimal}
 use Rattle.json.specs.Print.{quoted}
 use Rattle.plain_data.specs.DataText.{data_text}
 use Rattle.origin_core.specs.Origin.{origin_words}
 use Rattle.origin_core.specs.declared.origin.Origin.{Origin}
-use Rattle.origin_core.specs.Flags.{flags_text}
+use Rattle.origin_core.specs.Flags.{◌◊◌, flags_text}
 use Rattle.tree_log.specs.declared.entry.Entry.{Entry}
 use Rattle.tree_log.specs.declared.entry.Load.{Load}
 use Rattle.tree_log.specs.declared.entry.Target.{Target}
 use Rattle.tree_log.specs.declared.entry.Cause.{Cause}
 use Rattle.tree_log.specs.declared.entry.What.{What}
 use Rattle.tree_log.specs.declared.entry.What.TheVariants.{Open, Frame, Drop, Name, Begin, Commit, Fragment, Opener, Post, Fire, Lapse, Closing, Gone, Lost, Sync, Hidden}
-
--- one text and then another. It groups to the right, as what a format writes does
-infixr 10 ◌◊◌
-abbrev pub ◌◊◌ : List ℕ → List ℕ → List ℕ
-a ◊ b = a ++ b
 
 -- a letter and a number, as n1, or - where there is none
 abbrev pub numbered : List ℕ → Option ℕ → List ℕ
@@ -44,51 +39,47 @@ abbrev pub cause_words : Cause → List ℕ
 cause_words Cause.Inactive = codes "inactive"
 cause_words Cause.Origin = codes "origin"
 
--- the numbers and the origin of a window that opens
-unfoldable pub open_front : ℕ → ℕ → ℕ → ℕ → Origin → List ℕ
-open_front nav doc group home origin =
+-- what happened, and the numbers and the origin that it is about
+unfoldable pub front_words : What → List ℕ
+front_words (Open nav doc group home origin name opener flags navigator load) =
     codes "open n" ◊ decimal nav ◊ codes " d" ◊ decimal doc ◊ codes " g" ◊ decimal group ◊ codes " home=" ◊ decimal home
     ◊ codes " origin=" ◊ origin_words origin
+front_words (Frame nav doc home origin name flags load) =
+    codes "frame n" ◊ decimal nav ◊ codes " d" ◊ decimal doc ◊ codes " home=" ◊ decimal home ◊ codes " origin=" ◊ origin_words origin
+front_words (Drop nav) = codes "drop n" ◊ decimal nav
+front_words (Name nav name) = codes "name n" ◊ decimal nav
+front_words (Begin nav load) = codes "begin n" ◊ decimal nav
+front_words (Commit nav doc begin) =
+    codes "commit n" ◊ decimal nav ◊ codes " d" ◊ decimal doc ◊ codes " begin=" ◊ decimal begin
+front_words (Fragment nav doc url) = codes "fragment n" ◊ decimal nav ◊ codes " d" ◊ decimal doc
+front_words (Opener nav to) = codes "opener n" ◊ decimal nav ◊ codes " to=" ◊ numbered (codes "n") to
+front_words (Post to from origin target body) =
+    codes "post to=d" ◊ decimal to ◊ codes " from=n" ◊ decimal from ◊ codes " origin=" ◊ origin_words origin
+front_words (Fire doc post) = codes "fire d" ◊ decimal doc ◊ codes " post=" ◊ decimal post
+front_words (Lapse doc post cause) =
+    codes "lapse d" ◊ decimal doc ◊ codes " post=" ◊ decimal post ◊ codes " cause=" ◊ cause_words cause
+front_words (Closing nav) = codes "closing n" ◊ decimal nav
+front_words (Gone nav) = codes "gone n" ◊ decimal nav
+front_words (Lost renderer) = codes "lost r" ◊ decimal renderer
+front_words Sync = codes "sync"
+front_words Hidden = codes "hidden"
 
--- its name, its opener, its flags, its navigator and what it loads
-unfoldable pub open_back : List ℕ → Option ℕ → ℕ → Option ℕ → Option Load → List ℕ
-open_back name opener flags navigator load =
+-- names, URLs, flags, loads and messages
+unfoldable pub back_words : What → List ℕ
+back_words (Open nav doc group home origin name opener flags navigator load) =
     codes " name=" ◊ quoted name ◊ codes " opener=" ◊ numbered (codes "n") opener ◊ codes " flags=" ◊ flags_text flags
     ◊ codes " navigator=" ◊ numbered (codes "n") navigator ◊ codes " " ◊ load_words load
-
--- the numbers and the origin of a frame
-unfoldable pub frame_front : ℕ → ℕ → ℕ → Origin → List ℕ
-frame_front nav doc home origin =
-    codes "frame n" ◊ decimal nav ◊ codes " d" ◊ decimal doc ◊ codes " home=" ◊ decimal home ◊ codes " origin=" ◊ origin_words origin
-
--- its name, its flags and what it loads
-unfoldable pub frame_back : List ℕ → ℕ → Option Load → List ℕ
-frame_back name flags load = codes " name=" ◊ quoted name ◊ codes " flags=" ◊ flags_text flags ◊ codes " " ◊ load_words load
+back_words (Frame nav doc home origin name flags load) =
+    codes " name=" ◊ quoted name ◊ codes " flags=" ◊ flags_text flags ◊ codes " " ◊ load_words load
+back_words (Name nav name) = codes " " ◊ quoted name
+back_words (Begin nav load) = begin_words load
+back_words (Fragment nav doc url) = codes " url=" ◊ quoted url
+back_words (Post to from origin target body) = codes " target=" ◊ target_words target ◊ codes " data=" ◊ data_text body
+back_words _ = []
 
 -- what happened, after the three columns that each line begins with
-unfoldable pub what_words : What → List ℕ
-what_words (Open nav doc group home origin name opener flags navigator load) =
-    open_front nav doc group home origin ◊ open_back name opener flags navigator load
-what_words (Frame nav doc home origin name flags load) = frame_front nav doc home origin ◊ frame_back name flags load
-what_words (Drop nav) = codes "drop n" ◊ decimal nav
-what_words (Name nav name) = codes "name n" ◊ decimal nav ◊ codes " " ◊ quoted name
-what_words (Begin nav load) = codes "begin n" ◊ decimal nav ◊ begin_words load
-what_words (Commit nav doc begin) =
-    codes "commit n" ◊ decimal nav ◊ codes " d" ◊ decimal doc ◊ codes " begin=" ◊ decimal begin
-what_words (Fragment nav doc url) =
-    codes "fragment n" ◊ decimal nav ◊ codes " d" ◊ decimal doc ◊ codes " url=" ◊ quoted url
-what_words (Opener nav to) = codes "opener n" ◊ decimal nav ◊ codes " to=" ◊ numbered (codes "n") to
-what_words (Post to from origin target body) =
-    codes "post to=d" ◊ decimal to ◊ codes " from=n" ◊ decimal from ◊ codes " origin=" ◊ origin_words origin
-    ◊ codes " target=" ◊ target_words target ◊ codes " data=" ◊ data_text body
-what_words (Fire doc post) = codes "fire d" ◊ decimal doc ◊ codes " post=" ◊ decimal post
-what_words (Lapse doc post cause) =
-    codes "lapse d" ◊ decimal doc ◊ codes " post=" ◊ decimal post ◊ codes " cause=" ◊ cause_words cause
-what_words (Closing nav) = codes "closing n" ◊ decimal nav
-what_words (Gone nav) = codes "gone n" ◊ decimal nav
-what_words (Lost renderer) = codes "lost r" ◊ decimal renderer
-what_words Sync = codes "sync"
-what_words Hidden = codes "hidden"
+abbrev pub what_words : What → List ℕ
+what_words what = front_words what ◊ back_words what
 
 -- the line of an entry that stands at a place: the place, the renderer, the acting document, and what happened
 unfoldable pub entry_line : ℕ → Entry → List ℕ

@@ -2,7 +2,7 @@
 use Rattle.std.specs.Prelude.{ℕ, List, [], ◌∷◌, length, codes, decimal, map, Option, Some, None}
 use Rattle.json.specs.Print.{quoted}
 use Rattle.plain_data.specs.DataText.{with_commas}
-use Rattle.trace_text.specs.LogText.{◌◊◌}
+use Rattle.origin_core.specs.Flags.{◌◊◌}
 use Rattle.window_props.specs.declared.key.Key.{Key}
 use Rattle.window_props.specs.declared.descriptor.Descriptor.{Descriptor}
 use Rattle.window_props.specs.Keys.{key_text}
@@ -11,50 +11,17 @@ use Rattle.agent_terms.specs.declared.act.Act.{Act}
 use Rattle.agent_terms.specs.declared.act.Act.TheVariants.{Step, Task, LostTask}
 use Rattle.agent_terms.specs.declared.act.Point.{Point}
 use Rattle.agent_terms.specs.declared.act.Point.TheVariants.{Script, Handler}
-use Rattle.agent_terms.specs.declared.step.OpName.{OpName}
-use Rattle.agent_terms.specs.declared.step.OpName.TheVariants as op
 use Rattle.agent_terms.specs.declared.act.TaskKind.{TaskKind}
 use Rattle.agent_terms.specs.declared.act.TaskKind.TheVariants as kind
 use Rattle.agent_terms.specs.declared.act.Answer.{Answer}
 use Rattle.agent_terms.specs.declared.act.Answer.TheVariants as answer
-use Rattle.agent_terms.specs.declared.outcome.Rule.{Rule}
-use Rattle.agent_terms.specs.declared.outcome.Rule.TheVariants.{S1, S2, S3, S4, S5, S6, S7, S8}
 use Rattle.agent_terms.specs.declared.outcome.Outcome.{Outcome}
 use Rattle.agent_terms.specs.declared.outcome.Outcome.TheVariants as outcome
+use Rattle.agent_terms.specs.Texts.{op_text, rule_text}
 
 abbrev pub point_words : Point → List ℕ
 point_words (Script made) = codes "s" ◊ decimal made
 point_words (Handler place made) = codes "h" ◊ decimal place ◊ codes "." ◊ decimal made
-
-unfoldable pub op_words : OpName → List ℕ
-op_words op.Let = codes "let"
-op_words op.Get = codes "get"
-op_words op.Has = codes "has"
-op_words op.Describe = codes "describe"
-op_words op.Keys = codes "keys"
-op_words op.Proto = codes "proto"
-op_words op.SetProto = codes "setproto"
-op_words op.Extensible = codes "extensible"
-op_words op.Prevent = codes "prevent"
-op_words op.Set = codes "set"
-op_words op.Define = codes "define"
-op_words op.Delete = codes "delete"
-op_words op.Call = codes "call"
-op_words op.Sync = codes "sync"
-op_words op.Frame = codes "frame"
-op_words op.Drop = codes "drop"
-op_words op.Open = codes "open"
-op_words op.Link = codes "link"
-
-unfoldable pub rule_words : Rule → List ℕ
-rule_words S1 = codes "S1"
-rule_words S2 = codes "S2"
-rule_words S3 = codes "S3"
-rule_words S4 = codes "S4"
-rule_words S5 = codes "S5"
-rule_words S6 = codes "S6"
-rule_words S7 = codes "S7"
-rule_words S8 = codes "S8"
 
 abbrev pub key_words : Key → List ℕ
 key_words key = quoted (key_text key)
@@ -73,7 +40,7 @@ outcome_words (outcome.Value v) = value_text v
 outcome_words (outcome.Truth b) = truth_text b
 outcome_words (outcome.Keys keys) = keys_words keys
 outcome_words (outcome.Own property) = own_words property
-outcome_words (outcome.Security rule) = codes "SecurityError " ◊ rule_words rule
+outcome_words (outcome.Security rule) = codes "SecurityError " ◊ rule_text rule
 outcome_words outcome.Syntax = codes "SyntaxError"
 outcome_words outcome.SchemeOut = codes "SchemeOut"
 outcome_words outcome.DataClone = codes "DataCloneError"
@@ -94,7 +61,7 @@ kind_words kind.Gone = codes "gone"
 -- the line of an act
 unfoldable pub act_line : Act → List ℕ
 act_line (Step at doc point op answer) =
-    decimal at ◊ codes " d" ◊ decimal doc ◊ codes " " ◊ point_words point ◊ codes " " ◊ op_words op ◊ codes " -> " ◊ answer_words answer ◊ codes "\n"
+    decimal at ◊ codes " d" ◊ decimal doc ◊ codes " " ◊ point_words point ◊ codes " " ◊ op_text op ◊ codes " -> " ◊ answer_words answer ◊ codes "\n"
 act_line (Task at kind place) = decimal at ◊ codes " task " ◊ kind_words kind ◊ codes " " ◊ decimal place ◊ codes "\n"
 act_line (LostTask at) = decimal at ◊ codes " task lost\n"
 

@@ -1,6 +1,6 @@
 -- The line of a status, which a command prints last.
 use Rattle.std.specs.Prelude.{ℕ, List, [], codes, decimal}
-use Rattle.trace_text.specs.LogText.{◌◊◌}
+use Rattle.origin_core.specs.Flags.{◌◊◌}
 use Rattle.trace_text.specs.declared.status.Status.{Status}
 use Rattle.trace_text.specs.declared.status.Status.TheVariants.{Done, Usage, Session, Read, Write, LogFull, ActsFull, Memory}
 

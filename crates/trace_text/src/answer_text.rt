@@ -1,9 +1,9 @@
 ghost use Rattle.std.specs.Prelude.{◌≡◌, ◌++◌, OnOk, IfOk, string_bytes};
 ghost use Rattle.plain_data.specs.Commas.{comma_after};
-ghost use Rattle.trace_text.specs.RecordText.{rule_words, keys_words, own_words, outcome_words, answer_words};
+ghost use Rattle.trace_text.specs.RecordText.{keys_words, own_words, outcome_words, answer_words};
 ghost use Rattle.window_props.specs.ValueText as spec;
 
-use agent_terms::{Answer, Outcome, Rule};
+use agent_terms::{Answer, Outcome};
 use plain_data::{Text, quote};
 use std::alloc::{AllocError, Global};
 use window_props::{Descriptor, Key, descriptor_text, value_text};
@@ -30,7 +30,7 @@ fn outcome_text(alloc: Global, outcome: &Outcome) -> Result<Text, AllocError>
         Outcome::Keys(keys) => keys_text(alloc, keys.as_slice()),
         Outcome::Own(property) => own_text(alloc, property),
         Outcome::Security(rule) => {
-            let rule = rule_text(*rule);
+            let rule = rule.text();
             Ok(Text::from_string(format!(in alloc; "SecurityError {rule}")?))
         }
         Outcome::Syntax => Text::copy_of(alloc, "SyntaxError"),
@@ -55,22 +55,6 @@ fn own_text(alloc: Global, property: &Option<Descriptor>) -> Result<Text, AllocE
     match property {
         None => Text::copy_of(alloc, "undefined"),
         Some(property) => descriptor_text(alloc, property),
-    }
-}
-
-#[tactic(auto, unfolding(crate::specs::RecordText::rule_words))]
-fn rule_text(rule: Rule) -> &'static str
-    ensures { result.now ≡ rule_words rule }
-{
-    match rule {
-        Rule::S1 => "S1",
-        Rule::S2 => "S2",
-        Rule::S3 => "S3",
-        Rule::S4 => "S4",
-        Rule::S5 => "S5",
-        Rule::S6 => "S6",
-        Rule::S7 => "S7",
-        Rule::S8 => "S8",
     }
 }
 

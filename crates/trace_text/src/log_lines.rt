@@ -1,7 +1,6 @@
 ghost use Rattle.std.specs.Prelude.{◌≡◌, ◌++◌, Some, OnOk, IfOk, string_bytes, encode_utf8};
-ghost use Rattle.trace_text.specs.LogText.{numbered, load_words, begin_words, target_words, cause_words, open_front, open_back, frame_front, frame_back, what_words, entry_line, log_words};
+ghost use Rattle.trace_text.specs.LogText.{numbered, load_words, begin_words, target_words, cause_words, front_words, back_words, what_words, entry_line, log_words};
 
-use origin_core::{Flags, Origin};
 use plain_data::{Text, quote, text_of};
 use std::alloc::{AllocError, Global};
 use std::fmt;
@@ -59,9 +58,17 @@ fn widened(number: Option<u16>) -> Option<u32>
     number.map(u32::from)
 }
 
-#[tactic(auto, unfolding(crate::specs::LogText::what_words))]
 fn push_what(alloc: Global, out: &mut String, what: &What) -> Result<(), AllocError>
     ensures { OnOk result (string_bytes out.new ≡ string_bytes out.old ++ what_words what.now) }
+{
+    push_front(out, what)?;
+    push_back(alloc, out, what)
+}
+
+// What happened, and the numbers and the origin that it is about.
+#[tactic(auto, unfolding(crate::specs::LogText::front_words))]
+fn push_front(out: &mut String, what: &What) -> Result<(), AllocError>
+    ensures { OnOk result (string_bytes out.new ≡ string_bytes out.old ++ front_words what.now) }
 {
     match what {
         What::Open {
@@ -70,38 +77,23 @@ fn push_what(alloc: Global, out: &mut String, what: &What) -> Result<(), AllocEr
             group,
             home,
             origin,
-            name,
-            opener,
-            flags,
-            navigator,
-            load,
-        } => {
-            push_open_front(out, *nav, *doc, *group, *home, origin)?;
-            push_open_back(alloc, out, name, *opener, *flags, *navigator, load)
-        }
+            ..
+        } => write!(
+            out,
+            "open n{nav} d{doc} g{group} home={home} origin={origin}"
+        ),
         What::Frame {
             nav,
             doc,
             home,
             origin,
-            name,
-            flags,
-            load,
-        } => {
-            push_frame_front(out, *nav, *doc, *home, origin)?;
-            push_frame_back(alloc, out, name, *flags, load)
-        }
+            ..
+        } => write!(out, "frame n{nav} d{doc} home={home} origin={origin}"),
         What::Drop { nav } => write!(out, "drop n{nav}"),
-        What::Name { nav, name } => {
-            let name = quote(alloc, name.as_str())?;
-            write!(out, "name n{nav} {name}")
-        }
-        What::Begin { nav, load } => push_begin(alloc, out, *nav, load),
+        What::Name { nav, .. } => write!(out, "name n{nav}"),
+        What::Begin { nav, .. } => write!(out, "begin n{nav}"),
         What::Commit { nav, doc, begin } => write!(out, "commit n{nav} d{doc} begin={begin}"),
-        What::Fragment { nav, doc, url } => {
-            let url = quote(alloc, url.as_str())?;
-            write!(out, "fragment n{nav} d{doc} url={url}")
-        }
+        What::Fragment { nav, doc, .. } => write!(out, "fragment n{nav} d{doc}"),
         What::Opener { nav, to } => {
             let to = Numbered('n', *to);
             write!(out, "opener n{nav} to={to}")
@@ -110,17 +102,8 @@ fn push_what(alloc: Global, out: &mut String, what: &What) -> Result<(), AllocEr
             to,
             from,
             origin,
-            target,
-            body,
-        } => {
-            let target = target_text(alloc, target)?;
-            let body = text_of(alloc, body)?;
-            let body = body.as_str();
-            write!(
-                out,
-                "post to=d{to} from=n{from} origin={origin} target={target} data={body}"
-            )
-        }
+            ..
+        } => write!(out, "post to=d{to} from=n{from} origin={origin}"),
         What::Fire { doc, post } => write!(out, "fire d{doc} post={post}"),
         What::Lapse { doc, post, cause } => {
             let cause = cause_text(*cause);
@@ -134,71 +117,56 @@ fn push_what(alloc: Global, out: &mut String, what: &What) -> Result<(), AllocEr
     }
 }
 
-#[tactic(auto, unfolding(crate::specs::LogText::open_front))]
-fn push_open_front(
-    out: &mut String,
-    nav: u32,
-    doc: u32,
-    group: u32,
-    home: u16,
-    origin: &Origin,
-) -> Result<(), AllocError>
-    ensures { OnOk result (string_bytes out.new ≡ string_bytes out.old ++ open_front nav doc group home origin.now) }
+// Names, URLs, flags, loads and messages.
+#[tactic(auto, unfolding(crate::specs::LogText::back_words))]
+fn push_back(alloc: Global, out: &mut String, what: &What) -> Result<(), AllocError>
+    ensures { OnOk result (string_bytes out.new ≡ string_bytes out.old ++ back_words what.now) }
 {
-    write!(
-        out,
-        "open n{nav} d{doc} g{group} home={home} origin={origin}"
-    )
-}
-
-#[tactic(auto, unfolding(crate::specs::LogText::open_back))]
-fn push_open_back(
-    alloc: Global,
-    out: &mut String,
-    name: &Text,
-    opener: Option<u32>,
-    flags: Flags,
-    navigator: Option<u32>,
-    load: &Option<Load>,
-) -> Result<(), AllocError>
-    ensures { OnOk result (string_bytes out.new ≡ string_bytes out.old ++ open_back name.now opener flags navigator load.now) }
-{
-    let name = quote(alloc, name.as_str())?;
-    let opener = Numbered('n', opener);
-    let navigator = Numbered('n', navigator);
-    let load = load_text(alloc, load)?;
-    write!(
-        out,
-        " name={name} opener={opener} flags={flags} navigator={navigator} {load}"
-    )
-}
-
-#[tactic(auto, unfolding(crate::specs::LogText::frame_front))]
-fn push_frame_front(
-    out: &mut String,
-    nav: u32,
-    doc: u32,
-    home: u16,
-    origin: &Origin,
-) -> Result<(), AllocError>
-    ensures { OnOk result (string_bytes out.new ≡ string_bytes out.old ++ frame_front nav doc home origin.now) }
-{
-    write!(out, "frame n{nav} d{doc} home={home} origin={origin}")
-}
-
-#[tactic(auto, unfolding(crate::specs::LogText::frame_back))]
-fn push_frame_back(
-    alloc: Global,
-    out: &mut String,
-    name: &Text,
-    flags: Flags,
-    load: &Option<Load>,
-) -> Result<(), AllocError>
-    ensures { OnOk result (string_bytes out.new ≡ string_bytes out.old ++ frame_back name.now flags load.now) }
-{
-    let name = quote(alloc, name.as_str())?;
-    let load = load_text(alloc, load)?;
-    write!(out, " name={name} flags={flags} {load}")
+    match what {
+        What::Open {
+            name,
+            opener,
+            flags,
+            navigator,
+            load,
+            ..
+        } => {
+            let name = quote(alloc, name.as_str())?;
+            let opener = Numbered('n', *opener);
+            let navigator = Numbered('n', *navigator);
+            let load = load_text(alloc, load)?;
+            write!(
+                out,
+                " name={name} opener={opener} flags={flags} navigator={navigator} {load}"
+            )
+        }
+        What::Frame {
+            name,
+            flags,
+            load,
+            ..
+        } => {
+            let name = quote(alloc, name.as_str())?;
+            let load = load_text(alloc, load)?;
+            write!(out, " name={name} flags={flags} {load}")
+        }
+        What::Name { name, .. } => {
+            let name = quote(alloc, name.as_str())?;
+            write!(out, " {name}")
+        }
+        What::Begin { load, .. } => push_begin(alloc, out, load),
+        What::Fragment { url, .. } => {
+            let url = quote(alloc, url.as_str())?;
+            write!(out, " url={url}")
+        }
+        What::Post { target, body, .. } => {
+            let target = target_text(alloc, target)?;
+            let body = text_of(alloc, body)?;
+            let body = body.as_str();
+            write!(out, " target={target} data={body}")
+        }
+        _ => Ok(()),
+    }
 }
 
 // What a new navigable loads.
@@ -237,15 +205,11 @@ fn cause_text(cause: Cause) -> &'static str
 }
 
 // What an existing navigable begins to load.
-#[tactic(auto, unfolding(crate::specs::LogText::what_words))]
-fn push_begin(alloc: Global, out: &mut String, nav: u32, load: &Load) -> Result<(), AllocError>
-    ensures { OnOk result (string_bytes out.new ≡ string_bytes out.old ++ what_words (What.Begin nav load.now)) }
+fn push_begin(alloc: Global, out: &mut String, load: &Load) -> Result<(), AllocError>
+    ensures { OnOk result (string_bytes out.new ≡ string_bytes out.old ++ begin_words load.now) }
 {
     let url = quote(alloc, load.url.as_str())?;
     let (doc, home) = (load.doc, load.home);
     let origin = &load.origin;
-    write!(
-        out,
-        "begin n{nav} d{doc} home={home} origin={origin} url={url}"
-    )
+    write!(out, " d{doc} home={home} origin={origin} url={url}")
 }

@@ -1,9 +1,9 @@
 ghost use Rattle.std.specs.Prelude.{◌≡◌, ◌++◌, OnOk, IfOk, string_bytes, reverse};
-ghost use Rattle.trace_text.specs.RecordText.{point_words, op_words, kind_words, act_line, record_words};
+ghost use Rattle.trace_text.specs.RecordText.{point_words, kind_words, act_line, record_words};
 ghost use Rattle.std.specs.Prelude.{Some};
 
 use crate::answer_text::answer_text;
-use agent_terms::{Act, OpName, Point, TaskKind};
+use agent_terms::{Act, Point, TaskKind};
 use plain_data::Text;
 use std::alloc::{AllocError, Global};
 use std::fmt;
@@ -19,32 +19,6 @@ impl fmt::Display for At {
             Point::Script(made) => write!(f, "s{made}"),
             Point::Handler(place, made) => write!(f, "h{place}.{made}"),
         }
-    }
-}
-
-#[tactic(auto, unfolding(crate::specs::RecordText::op_words))]
-fn op_text(op: OpName) -> &'static str
-    ensures { result.now ≡ op_words op }
-{
-    match op {
-        OpName::Let => "let",
-        OpName::Get => "get",
-        OpName::Has => "has",
-        OpName::Describe => "describe",
-        OpName::Keys => "keys",
-        OpName::Proto => "proto",
-        OpName::SetProto => "setproto",
-        OpName::Extensible => "extensible",
-        OpName::Prevent => "prevent",
-        OpName::Set => "set",
-        OpName::Define => "define",
-        OpName::Delete => "delete",
-        OpName::Call => "call",
-        OpName::Sync => "sync",
-        OpName::Frame => "frame",
-        OpName::Drop => "drop",
-        OpName::Open => "open",
-        OpName::Link => "link",
     }
 }
 
@@ -73,7 +47,7 @@ fn push_act(alloc: Global, out: &mut String, act: &Act) -> Result<(), AllocError
             answer,
         } => {
             let answer = answer_text(alloc, answer)?;
-            let (point, op, answer) = (At(*point), op_text(*op), answer.as_str());
+            let (point, op, answer) = (At(*point), op.text(), answer.as_str());
             writeln!(out, "{at} d{doc} {point} {op} -> {answer}")
         }
         Act::Task { at, kind, place } => {

@@ -1,5 +1,6 @@
 use Rattle.std.proofs.Common.{◌≡◌, length, reverse, take, string_bytes, codes, decimal}
-use Rattle.trace_text.specs.LogText.{◌◊◌, log_lines}
+use Rattle.origin_core.specs.Flags.{◌◊◌}
+use Rattle.trace_text.specs.LogText.{log_lines}
 use Rattle.trace_text.proofs.log_lines.log_text.Given as goal
 
 abbrev pub invariant-loop-place : goal.invariant-loop-place

@@ -1,5 +1,5 @@
 use Rattle.std.proofs.Common.{◌≡◌, length, reverse, take, string_bytes, codes, decimal}
-use Rattle.trace_text.specs.LogText.{◌◊◌}
+use Rattle.origin_core.specs.Flags.{◌◊◌}
 use Rattle.trace_text.specs.RecordText.{act_lines}
 use Rattle.trace_text.proofs.record_lines.record_text.Given as goal
 
