@@ -1,22 +1,9 @@
-use agent_terms::{Outcome, Performed, Request, Rule};
+use agent_terms::{Outcome, Performed, Request};
 use origin_core::{Origin, PageUrl, origin_text};
 use plain_data::Items;
 use std::alloc::{AllocError, Global};
 use tree_log::Target;
 use window_props::{Key, Value, descriptor_text, value_text};
-
-fn rule_text(rule: Rule) -> &'static str {
-    match rule {
-        Rule::S1 => "S1",
-        Rule::S2 => "S2",
-        Rule::S3 => "S3",
-        Rule::S4 => "S4",
-        Rule::S5 => "S5",
-        Rule::S6 => "S6",
-        Rule::S7 => "S7",
-        Rule::S8 => "S8",
-    }
-}
 
 fn keys_text(alloc: Global, keys: &Items<Key>) -> Result<String, AllocError> {
     let mut line = String::new(alloc);
@@ -91,7 +78,7 @@ fn outcome_text(alloc: Global, outcome: Outcome) -> Result<String, AllocError> {
         Outcome::Own(Some(property)) => {
             String::from_str(alloc, descriptor_text(alloc, &property)?.as_str())
         }
-        Outcome::Security(rule) => String::from_str(alloc, rule_text(rule)),
+        Outcome::Security(rule) => String::from_str(alloc, rule.text()),
         Outcome::Syntax => String::from_str(alloc, "SyntaxError"),
         Outcome::SchemeOut => String::from_str(alloc, "SchemeOut"),
         Outcome::DataClone => String::from_str(alloc, "DataCloneError"),

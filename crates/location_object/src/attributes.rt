@@ -1,11 +1,9 @@
-//! What the attributes of a Location give and take (HTML Standard, 7.2.4, `href` and `origin`).
+//! What the attributes of a Location give (HTML Standard, 7.2.4, `href` and `origin`).
 ghost use Rattle.std.specs.Prelude.{◌≡◌, ◌<◌, IfOk};
 ghost use Rattle.origin_core.specs.Origin.{page_origin};
 ghost use Rattle.object_access.specs.LocationAccess as spec;
 ghost use Rattle.object_access.specs.Values.{text};
 
-use agent_terms::Outcome;
-use object_operations::set_href;
 use object_operations::values::{text, undefined};
 use origin_core::{origin_text, url_origin};
 use std::alloc::{AllocError, Global};
@@ -51,25 +49,5 @@ pub(crate) fn location_value<V: View>(
         Platform::Href => href_value(alloc, view, doc),
         Platform::Origin => origin_value(alloc, view, doc),
         _ => Ok(undefined()),
-    }
-}
-
-/// What the setter of an attribute comes to for the Location of a document.
-#[tactic(auto, unfolding(object_access::specs::LocationAccess::location_set))]
-pub(crate) fn location_set<V: View>(
-    alloc: Global,
-    view: &V,
-    asker: u32,
-    doc: u32,
-    name: Platform,
-    value: &Value,
-) -> Result<Outcome, AllocError>
-    requires asker { asker < (V.tree view.now).docs }
-    requires doc { doc < (V.tree view.now).docs }
-    ensures { IfOk result (λ o. o ≡ spec.location_set (V.tree view.now) (V.urls view.now) asker doc name value.now) }
-{
-    match name {
-        Platform::Href => set_href(alloc, view, asker, doc, value),
-        _ => Ok(Outcome::Truth(false)),
     }
 }

@@ -9,8 +9,8 @@ mod location;
 mod operations;
 mod sending;
 
-pub use location::LocationMet;
 pub use operations::{
-    call, define, delete, get, has, own_keys, own_property, prototype, set, verdict,
+    call, define, delete, get, has, is_extensible, own_keys, own_property, prevent_extensions,
+    prototype, set, set_prototype, verdict,
 };
-pub use sending::{assign, replace};
+pub use sending::{assign, assign as replace};

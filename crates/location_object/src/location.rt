@@ -1,24 +1,25 @@
-ghost use Rattle.std.specs.Prelude.{◌≡◌, ◌<◌};
+ghost use Rattle.std.specs.Prelude.{◌≡◌};
 ghost use Rattle.object_access.specs.LocationAccess as spec;
+ghost use Rattle.object_operations.specs.There.{HasLocation};
 
-use crate::attributes::{location_set, location_value};
+use crate::attributes::location_value;
 use crate::sending::send;
 use agent_terms::Outcome;
-use object_operations::Met;
 use object_operations::values::undefined;
+use object_operations::{Met, set_href};
 use std::alloc::{AllocError, Global};
 use tree_view::View;
-use window_props::{Key, Kind, Method, Object, Value, named};
+use window_props::{Key, Kind, Method, Object, Platform, Value, named};
 
 /// The Location of a document, as a document meets it.
 #[derive(Drop)]
-pub struct LocationMet<'a, V> {
+pub(crate) struct LocationMet<'a, V> {
     pub view: &'a V,
     pub asker: u32,
     pub doc: u32,
 }
 
-#[tactic(auto, unfolding(object_access::specs::LocationAccess::location))]
+#[tactic(auto, unfolding(object_access::specs::LocationAccess::location, object_access::specs::LocationAccess::location_set))]
 impl<'a, V: View> Met for LocationMet<'a, V> {
     ghost tree = { λ m. V.tree m.view.now };
 
@@ -28,7 +29,7 @@ impl<'a, V: View> Met for LocationMet<'a, V> {
 
     ghost seen = { λ m. spec.location (V.tree m.view.now) (V.urls m.view.now) m.asker m.doc };
 
-    ghost fits = { λ m. (m.asker < (V.tree m.view.now).docs) × (m.doc < (V.tree m.view.now).docs) };
+    ghost fits = { λ m. HasLocation (V.tree m.view.now) m.asker m.doc };
 
     fn is_own(&self) -> bool {
         self.view.same_domain(self.asker, self.doc)
@@ -68,7 +69,8 @@ impl<'a, V: View> Met for LocationMet<'a, V> {
     fn setter(&self, alloc: Global, key: &Key, value: &Value) -> Result<Outcome, AllocError> {
         match named(self.object(), key) {
             None => Ok(Outcome::Truth(false)),
-            Some(name) => location_set(alloc, self.view, self.asker, self.doc, name, value),
+            Some(Platform::Href) => set_href(alloc, self.view, self.asker, self.doc, value),
+            Some(_) => Ok(Outcome::Truth(false)),
         }
     }
 

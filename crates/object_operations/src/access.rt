@@ -11,5 +11,7 @@ mod ruling;
 pub use calling::{built_in, call};
 pub use changing::{define, delete, set};
 pub use listing::own_keys;
-pub use reading::{get, has, own_property, prototype};
+pub use reading::{
+    get, has, is_extensible, own_property, prevent_extensions, prototype, set_prototype,
+};
 pub use ruling::verdict;

@@ -1,5 +1,6 @@
-ghost use Rattle.std.specs.Prelude.{◌≡◌, ◌<◌, IfOk};
+ghost use Rattle.std.specs.Prelude.{◌≡◌, IfOk};
 ghost use Rattle.object_access.specs.Going as spec;
+ghost use Rattle.object_operations.specs.There.{HasLocation};
 
 use crate::values::text_of;
 use agent_terms::{Ask, Outcome};
@@ -19,8 +20,7 @@ pub fn go<V: View>(
     doc: u32,
     text: &str,
 ) -> Result<Option<Outcome>, AllocError>
-    requires asker { asker < (V.tree view.now).docs }
-    requires doc { doc < (V.tree view.now).docs }
+    requires { HasLocation (V.tree view.now) asker doc }
     ensures { IfOk result (λ o. o ≡ spec.go (V.tree view.now) (V.urls view.now) asker doc text.now) }
 {
     if !view.is_active(doc) {
@@ -42,8 +42,7 @@ pub fn set_href<V: View>(
     doc: u32,
     value: &Value,
 ) -> Result<Outcome, AllocError>
-    requires asker { asker < (V.tree view.now).docs }
-    requires doc { doc < (V.tree view.now).docs }
+    requires { HasLocation (V.tree view.now) asker doc }
     ensures { IfOk result (λ o. o ≡ spec.set_href (V.tree view.now) (V.urls view.now) asker doc value.now) }
 {
     match text_of(alloc, value)? {

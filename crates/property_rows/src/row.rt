@@ -57,13 +57,29 @@ fn at_key(
     let (key, given) = rest.split_once(' ').unwrap_or((rest, ""));
     let key = Key::read(alloc, key)?;
     match name {
-        "define" => truth(alloc, subject.props.define(&key, change(alloc, given)?)?),
-        "set" => set_answer(alloc, subject.props.set(&key, value(alloc, given)?)?),
-        "delete" => truth(alloc, subject.props.delete(&key)),
+        "define" | "set" | "delete" => changed(alloc, &mut subject.props, name, &key, given),
         "describe" => described(alloc, &subject.props.own(&key)?),
         "shown" => described(alloc, &listed(subject.object, &key)),
         "fallback" => truth(alloc, fallback(&key)),
         _ => String::from_str(alloc, "no such call"),
+    }
+}
+
+// A call that changes the property at a key, where the store can hold one.
+fn changed(
+    alloc: Global,
+    props: &mut Props,
+    name: &str,
+    key: &Key,
+    given: &str,
+) -> Result<String, AllocError> {
+    if !props.can_hold(key) {
+        return String::from_str(alloc, "no such key");
+    }
+    match name {
+        "define" => truth(alloc, props.define(key, change(alloc, given)?)?),
+        "set" => set_answer(alloc, props.set(key, value(alloc, given)?)?),
+        _ => truth(alloc, props.delete(key)),
     }
 }
 

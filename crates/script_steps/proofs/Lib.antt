@@ -1,6 +1,7 @@
 pub mod RowLaws
 pub mod KeptLaws
 pub mod StoredLaws
+pub mod SuitLaws
 pub mod ObjectLaws
+pub mod OperationLaws
 pub mod AnyLaws
-pub mod BuiltLaws

@@ -1,4 +1,5 @@
 pub mod Slots
+pub mod Kind
 pub mod Rows
 pub mod Kept
 pub mod Stored

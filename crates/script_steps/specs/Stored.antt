@@ -1,22 +1,17 @@
 -- The properties of the objects that are kept.
-use Rattle.std.specs.Prelude.{◌≡◌, ◌<◌, [], length, true, Option, Some, None, is_some, if◌then◌else◌}
+use Rattle.std.specs.Prelude.{◌<◌, length, Option, if◌then◌else◌}
 use Rattle.window_props.specs.declared.platform.Object.{Object}
 use Rattle.window_props.specs.declared.platform.Object.TheVariants as object
 use Rattle.window_props.specs.declared.props.Props.{Props}
 use Rattle.window_props.specs.Values.{same_object}
-use Rattle.window_props.specs.History.{Store, store_of}
-use Rattle.window_props.specs.Shown.{store_shown}
+use Rattle.window_props.specs.History.{Store}
+use Rattle.window_props.specs.Shown.{store_in}
 use Rattle.script_steps.specs.declared.stores.Stores.{Stores}
 use Rattle.script_steps.specs.Slots.{slot}
 
 abbrev pub props_at : Stores → Object → Option Props
 props_at s (object.Window d) = slot s.windows.slots.items d
 props_at s (object.Location d) = slot s.locations.slots.items d
-
--- those that the platform makes, where nothing is kept
-abbrev pub store_in : Object → Option Props → Store
-store_in o None = store_of o []
-store_in o (Some p) = store_shown p
 
 unfoldable pub stored : Stores → Object → Store
 stored s o = store_in o (props_at s o)
@@ -29,8 +24,3 @@ HasRoom s (object.Location d) = d < length s.locations.slots.items
 -- one object's properties in place of what there was
 abbrev pub placed : Object → Store → (Object → Store) → Object → Store
 placed o store stores = λ other. if same_object other o then store else stores other
-
--- the object's properties are kept
-pub record IsReady (s : Stores) (o : Object) : Type 0 where
-  pub kept : is_some (props_at s o) ≡ true
-  pub room : HasRoom s o

@@ -1,25 +1,24 @@
-ghost use Rattle.std.specs.Prelude.{◌≡◌, ◌<◌, false, IfOk, IfSome, OnErr};
+ghost use Rattle.std.specs.Prelude.{◌≡◌, ◌<◌, IfOk, OnErr};
 ghost use Rattle.window_props.specs.declared.platform.Object.{Object};
 ghost use Rattle.window_props.specs.History.{Store};
-ghost use Rattle.object_access.specs.Access.{store_left};
 ghost use Rattle.object_access.specs.StepAnswer as spec;
+ghost use Rattle.object_access.specs.WindowAccess.{window};
+ghost use Rattle.object_access.specs.LocationAccess.{location};
+ghost use Rattle.object_operations.specs.There.{HasWindow, HasLocation};
 ghost use Rattle.script_steps.specs.Kept.{kept};
-ghost use Rattle.script_steps.specs.Stored.{placed, stored};
-ghost use Rattle.script_steps.specs.Reached.{sight, seen_of, reached_of, IsThere, Fits};
-ghost use Rattle.script_steps.specs.Asked.{asked, looked, act_of, done};
+ghost use Rattle.script_steps.specs.Stored.{stored};
+ghost use Rattle.script_steps.specs.Reached.{sight, Fits};
+ghost use Rattle.script_steps.specs.Asked.{outcome_of, stores_left, stores_after};
 
 use crate::asking::performed;
-use crate::objects::{Changing, Looking, Reading, change, look, read};
-use crate::reached::{Reached, reached_value};
+use crate::operation::Operation;
 use crate::registers::Registers;
 use crate::stores::Stores;
 use agent_terms::{Operand, Outcome, Performed};
-use location_object::LocationMet;
 use plain_data::Data;
 use std::alloc::{AllocError, Global};
 use tree_view::View;
-use window_props::{Key, Value};
-use window_proxy::WindowMet;
+use window_props::{Object, Value};
 
 /// A document whose script runs, with what its steps go by.
 #[derive(Drop)]
@@ -58,151 +57,101 @@ impl<'a, V: View> Agent<'a, V> {
         }
     }
 
-    // The object that a register holds.
-    #[tactic(auto, unfolding(object_access::specs::StepAnswer::held))]
-    fn reached(&self, of: &str) -> Option<Reached>
-        requires { Fits (V.tree self.now.view.now) (kept self.now.registers.now) self.now.doc }
-        ensures value { (stores : Object → Store) → result ≡ reached_of (spec.held (sight (V.tree self.now.view.now) (V.urls self.now.view.now) (kept self.now.registers.now) stores) self.now.doc of.now) }
-        ensures there { IfSome result (IsThere (V.tree self.now.view.now)) }
+    // The Window of a navigable, by its active document.
+    #[tactic(auto, unfolding(object_access::specs::WindowAccess::window_of))]
+    fn window_of(&self, nav: u32) -> Object
+        requires { HasWindow (V.tree self.now.view.now) self.now.doc nav }
+        ensures { result ≡ (window (V.tree self.now.view.now) (V.urls self.now.view.now) self.now.doc nav).object }
     {
+        Object::Window(self.view.active(nav))
+    }
+
+    // What comes of an operation on the Window of a navigable.
+    fn on_window(
+        &self,
+        stores: &mut Stores,
+        nav: u32,
+        operation: Operation<'_>,
+    ) -> Result<Outcome, AllocError>
+        requires { HasWindow (V.tree self.now.view.now) self.now.doc nav }
+        ensures ok { let seen = window (V.tree self.now.view.now) (V.urls self.now.view.now) self.now.doc nav in
+            IfOk result (λ o. o ≡ outcome_of (V.tree self.now.view.now) (V.urls self.now.view.now) self.now.doc operation.entry seen (stored stores.old seen.object)) }
+        ensures left { let seen = window (V.tree self.now.view.now) (V.urls self.now.view.now) self.now.doc nav in
+            IfOk result (λ _. stored stores.new ≡ stores_left operation.entry seen (stored stores.old)) }
+        ensures err { OnErr result (stored stores.new ≡ stored stores.old) }
+    {
+        let object = self.window_of(nav);
+        match operation {
+            Operation::Read(reading) => self.read_window(stores.get(object), nav, reading),
+            Operation::Change(key, changing) => {
+                let mut props = stores.take(object)?;
+                let outcome = self.change_window(&mut props, nav, key, changing);
+                stores.put(object, props);
+                outcome
+            }
+        }
+    }
+
+    // What comes of an operation on the Location of a document.
+    #[tactic(auto, unfolding(object_access::specs::LocationAccess::location))]
+    fn on_location(
+        &self,
+        stores: &mut Stores,
+        of: u32,
+        operation: Operation<'_>,
+    ) -> Result<Outcome, AllocError>
+        requires { HasLocation (V.tree self.now.view.now) self.now.doc of }
+        ensures ok { let seen = location (V.tree self.now.view.now) (V.urls self.now.view.now) self.now.doc of in
+            IfOk result (λ o. o ≡ outcome_of (V.tree self.now.view.now) (V.urls self.now.view.now) self.now.doc operation.entry seen (stored stores.old seen.object)) }
+        ensures left { let seen = location (V.tree self.now.view.now) (V.urls self.now.view.now) self.now.doc of in
+            IfOk result (λ _. stored stores.new ≡ stores_left operation.entry seen (stored stores.old)) }
+        ensures err { OnErr result (stored stores.new ≡ stored stores.old) }
+    {
+        let object = Object::Location(of);
+        match operation {
+            Operation::Read(reading) => self.read_location(stores.get(object), of, reading),
+            Operation::Change(key, changing) => {
+                let mut props = stores.take(object)?;
+                let outcome = self.change_location(&mut props, of, key, changing);
+                stores.put(object, props);
+                outcome
+            }
+        }
+    }
+
+    /// What comes of an operation on the object that a register holds, a Window or a Location: a TypeError where it holds
+    /// none. After an `Err` what is stored is as before.
+    #[tactic(auto, unfolding(object_access::specs::StepAnswer::held, object_access::specs::StepAnswer::on_object))]
+    pub(crate) fn on_object(
+        &self,
+        stores: &mut Stores,
+        of: &str,
+        operation: Operation<'_>,
+        user: bool,
+    ) -> Result<Performed, AllocError>
+        requires { Fits (V.tree self.now.view.now) (kept self.now.registers.now) self.now.doc }
+        ensures ok { IfOk result (λ p. p ≡ spec.on_object (sight (V.tree self.now.view.now) (V.urls self.now.view.now) (kept self.now.registers.now) (stored stores.old)) self.now.doc user of.now (λ seen. outcome_of (V.tree self.now.view.now) (V.urls self.now.view.now) self.now.doc operation.entry seen (stored stores.old seen.object))) }
+        ensures left { IfOk result (λ _. stored stores.new ≡ stores_after operation.entry (sight (V.tree self.now.view.now) (V.urls self.now.view.now) (kept self.now.registers.now) (stored stores.old)) self.now.doc of.now) }
+        ensures err { OnErr result (stored stores.new ≡ stored stores.old) }
+    {
+        let doc = self.doc;
         if of == "window" {
-            return Some(Reached::Window(self.view.nav_of(self.doc)));
+            let outcome = self.on_window(stores, self.view.nav_of(doc), operation)?;
+            return Ok(performed(doc, user, outcome));
         }
         if of == "undefined" {
-            return None;
+            return Ok(Performed::Answer(Outcome::TypeFault));
         }
-        reached_value(self.registers.find(self.doc, of))
-    }
-
-    // The Window of a navigable, as the document meets it.
-    fn window(&self, nav: u32) -> WindowMet<'a, V>
-        ensures { result ≡ record { view = self.now.view; asker = self.now.doc; nav = nav } }
-    {
-        WindowMet {
-            view: self.view,
-            asker: self.doc,
-            nav,
+        match self.registers.find(doc, of) {
+            Some(Value::Window(nav)) => {
+                let outcome = self.on_window(stores, *nav, operation)?;
+                Ok(performed(doc, user, outcome))
+            }
+            Some(Value::Location(of)) => {
+                let outcome = self.on_location(stores, *of, operation)?;
+                Ok(performed(doc, user, outcome))
+            }
+            _ => Ok(Performed::Answer(Outcome::TypeFault)),
         }
-    }
-
-    // The Location of a document, as the document meets it.
-    fn location(&self, doc: u32) -> LocationMet<'a, V>
-        ensures { result ≡ record { view = self.now.view; asker = self.now.doc; doc = doc } }
-    {
-        LocationMet {
-            view: self.view,
-            asker: self.doc,
-            doc,
-        }
-    }
-
-    fn read_reached(
-        &self,
-        stores: &mut Stores,
-        reached: Reached,
-        reading: Reading<'_>,
-    ) -> Result<Outcome, AllocError>
-        requires asker { self.now.doc < (V.tree self.now.view.now).docs }
-        requires there { IsThere (V.tree self.now.view.now) reached }
-        ensures ok { let seen = seen_of (V.tree self.now.view.now) (V.urls self.now.view.now) self.now.doc reached in
-            IfOk result (λ o. o ≡ asked (V.tree self.now.view.now) (V.urls self.now.view.now) self.now.doc reading.entry seen (stored stores.old seen.object)) }
-        ensures same { stored stores.new ≡ stored stores.old }
-    {
-        match reached {
-            Reached::Window(nav) => read(self.alloc, &self.window(nav), stores, reading),
-            Reached::Location(doc) => read(self.alloc, &self.location(doc), stores, reading),
-        }
-    }
-
-    fn look_reached(&self, reached: Reached, looking: Looking) -> Outcome
-        requires asker { self.now.doc < (V.tree self.now.view.now).docs }
-        requires there { IsThere (V.tree self.now.view.now) reached }
-        ensures { result ≡ looked looking (seen_of (V.tree self.now.view.now) (V.urls self.now.view.now) self.now.doc reached) }
-    {
-        match reached {
-            Reached::Window(nav) => look(&self.window(nav), looking),
-            Reached::Location(doc) => look(&self.location(doc), looking),
-        }
-    }
-
-    fn change_reached(
-        &self,
-        stores: &mut Stores,
-        reached: Reached,
-        key: &Key,
-        changing: Changing,
-    ) -> Result<Outcome, AllocError>
-        requires asker { self.now.doc < (V.tree self.now.view.now).docs }
-        requires there { IsThere (V.tree self.now.view.now) reached }
-        ensures ok { let seen = seen_of (V.tree self.now.view.now) (V.urls self.now.view.now) self.now.doc reached in
-            IfOk result (λ o. o ≡ done changing seen (stored stores.old seen.object) key.now) }
-        ensures left { let seen = seen_of (V.tree self.now.view.now) (V.urls self.now.view.now) self.now.doc reached in
-            IfOk result (λ _. stored stores.new ≡ placed seen.object (store_left seen (stored stores.old seen.object) key.now (act_of changing)) (stored stores.old)) }
-        ensures err { OnErr result (stored stores.new ≡ stored stores.old) }
-    {
-        match reached {
-            Reached::Window(nav) => change(self.alloc, &self.window(nav), stores, key, changing),
-            Reached::Location(doc) => change(
-                self.alloc,
-                &self.location(doc),
-                stores,
-                key,
-                changing,
-            ),
-        }
-    }
-
-    /// What is answered of an object's properties.
-    pub(crate) fn read(
-        &self,
-        stores: &mut Stores,
-        of: &str,
-        reading: Reading<'_>,
-        user: bool,
-    ) -> Result<Performed, AllocError>
-        requires { Fits (V.tree self.now.view.now) (kept self.now.registers.now) self.now.doc }
-        ensures ok { IfOk result (λ p. p ≡ spec.on_object (sight (V.tree self.now.view.now) (V.urls self.now.view.now) (kept self.now.registers.now) (stored stores.old)) self.now.doc user of.now (λ seen. asked (V.tree self.now.view.now) (V.urls self.now.view.now) self.now.doc reading.entry seen (stored stores.old seen.object))) }
-        ensures same { stored stores.new ≡ stored stores.old }
-    {
-        let reached = match self.reached(of) {
-            Some(reached) => reached,
-            None => return Ok(Performed::Answer(Outcome::TypeFault)),
-        };
-        let outcome = self.read_reached(stores, reached, reading)?;
-        Ok(performed(self.doc, user, outcome))
-    }
-
-    /// What is answered of an object beside its properties. It takes no memory.
-    pub(crate) fn look(&self, of: &str, looking: Looking) -> Performed
-        requires { Fits (V.tree self.now.view.now) (kept self.now.registers.now) self.now.doc }
-        ensures { (stores : Object → Store) → result ≡ spec.on_object (sight (V.tree self.now.view.now) (V.urls self.now.view.now) (kept self.now.registers.now) stores) self.now.doc false of.now (looked looking) }
-    {
-        let reached = match self.reached(of) {
-            Some(reached) => reached,
-            None => return Performed::Answer(Outcome::TypeFault),
-        };
-        performed(self.doc, false, self.look_reached(reached, looking))
-    }
-
-    /// What is answered as a property is changed.
-    pub(crate) fn change(
-        &self,
-        stores: &mut Stores,
-        of: &str,
-        key: &Key,
-        changing: Changing,
-        user: bool,
-    ) -> Result<Performed, AllocError>
-        requires { Fits (V.tree self.now.view.now) (kept self.now.registers.now) self.now.doc }
-        ensures ok { IfOk result (λ p. p ≡ spec.on_object (sight (V.tree self.now.view.now) (V.urls self.now.view.now) (kept self.now.registers.now) (stored stores.old)) self.now.doc user of.now (λ seen. done changing seen (stored stores.old seen.object) key.now)) }
-        ensures left { IfOk result (λ _. stored stores.new ≡ spec.changed_at (sight (V.tree self.now.view.now) (V.urls self.now.view.now) (kept self.now.registers.now) (stored stores.old)) self.now.doc of.now key.now (act_of changing)) }
-        ensures err { OnErr result (stored stores.new ≡ stored stores.old) }
-    {
-        let reached = match self.reached(of) {
-            Some(reached) => reached,
-            None => return Ok(Performed::Answer(Outcome::TypeFault)),
-        };
-        let outcome = self.change_reached(stores, reached, key, changing)?;
-        Ok(performed(self.doc, user, outcome))
     }
 }

@@ -4,12 +4,13 @@
 mod agent;
 mod asking;
 mod loading;
-mod objects;
-mod reached;
+mod locations;
+mod operation;
 mod registers;
 mod slots;
 mod steps;
 mod stores;
+mod windows;
 mod words;
 
 pub use agent_terms::{Act, Answer, OpName, Operand, Page, Performed, Point, Step};

@@ -152,7 +152,7 @@ impl Registers {
         self.documents.make_room(doc)?;
         let mut rows = Rows::or_none(self.documents.take(doc), self.alloc);
         let wrote = rows.write(self.alloc, name, value);
-        self.documents.put(doc, rows);
+        self.documents.put(doc, Some(rows));
         wrote
     }
 }

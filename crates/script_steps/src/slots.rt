@@ -1,4 +1,4 @@
-ghost use Rattle.std.specs.Prelude.{◌≡◌, ◌<◌, ℕ, ◌==◌, length, Some, None, option_copied, OnOk, if◌then◌else◌};
+ghost use Rattle.std.specs.Prelude.{◌≡◌, ◌<◌, ℕ, ◌==◌, length, None, option_copied, OnOk, if◌then◌else◌};
 ghost use Rattle.script_steps.specs.Slots.{slot};
 
 use std::alloc::{AllocError, Global};
@@ -55,12 +55,11 @@ impl<T: Drop> Slots<T> {
         None
     }
 
-    /// Keeps an item for a document.
-    pub(crate) fn put(&mut self, doc: u32, item: T)
+    /// Keeps an item, or none, for a document.
+    pub(crate) fn put(&mut self, doc: u32, item: Option<T>)
         requires { doc < length self.old.slots.items }
-        ensures kept { (d : ℕ) → slot self.new.slots.items d ≡ (if d == doc then Some item else slot self.old.slots.items d) }
-        ensures room { length self.new.slots.items ≡ length self.old.slots.items }
+        ensures { (d : ℕ) → slot self.new.slots.items d ≡ (if d == doc then item else slot self.old.slots.items d) }
     {
-        self.slots[doc as usize] = Some(item);
+        self.slots[doc as usize] = item;
     }
 }

@@ -8,10 +8,11 @@ ghost use Rattle.object_access.specs.Methods.{called};
 ghost use Rattle.object_access.specs.StepAnswer as spec;
 ghost use Rattle.script_steps.specs.Kept.{kept};
 ghost use Rattle.script_steps.specs.Stored.{stored};
+ghost use Rattle.script_steps.specs.Asked.{asked};
 ghost use Rattle.script_steps.specs.Reached.{sight, Fits};
 
 use crate::agent::Agent;
-use crate::objects::{Changing, Looking, Reading};
+use crate::operation::{Changing, Operation, Reading};
 use crate::registers::Registers;
 use crate::stores::Stores;
 use agent_terms::{Operand, Outcome, Performed, Request, Step};
@@ -42,6 +43,21 @@ impl<'a, V: View> Agent<'a, V> {
         }
     }
 
+    fn read(
+        &self,
+        stores: &mut Stores,
+        of: &Text,
+        reading: Reading<'_>,
+        user: bool,
+    ) -> Result<Performed, AllocError>
+        requires { Fits (V.tree self.now.view.now) (kept self.now.registers.now) self.now.doc }
+        ensures ok { let s = sight (V.tree self.now.view.now) (V.urls self.now.view.now) (kept self.now.registers.now) (stored stores.old) in
+            IfOk result (λ p. p ≡ spec.on_object s self.now.doc user of.now (λ seen. asked s.tree s.urls self.now.doc reading.entry seen (s.stores seen.object))) }
+        ensures same { stored stores.new ≡ stored stores.old }
+    {
+        self.on_object(stores, of.as_str(), Operation::Read(reading), user)
+    }
+
     fn call(
         &self,
         stores: &mut Stores,
@@ -56,12 +72,7 @@ impl<'a, V: View> Agent<'a, V> {
         ensures same { stored stores.new ≡ stored stores.old }
     {
         let args = self.operands(args.as_slice())?;
-        self.read(
-            stores,
-            of.as_str(),
-            Reading::Call(key, args.as_slice()),
-            user,
-        )
+        self.read(stores, of, Reading::Call(key, args.as_slice()), user)
     }
 
     fn set(
@@ -80,7 +91,12 @@ impl<'a, V: View> Agent<'a, V> {
         ensures err { OnErr result (stored stores.new ≡ stored stores.old) }
     {
         let value = self.operand(value)?;
-        self.change(stores, of.as_str(), key, Changing::Set(value), user)
+        self.on_object(
+            stores,
+            of.as_str(),
+            Operation::Change(key, Changing::Set(value)),
+            user,
+        )
     }
 
     fn define(
@@ -103,7 +119,12 @@ impl<'a, V: View> Agent<'a, V> {
             enumerable: given.enumerable,
             configurable: given.configurable,
         };
-        self.change(stores, of.as_str(), key, Changing::Define(change), false)
+        self.on_object(
+            stores,
+            of.as_str(),
+            Operation::Change(key, Changing::Define(change)),
+            false,
+        )
     }
 }
 
@@ -142,16 +163,14 @@ pub fn local<V: View>(
     };
     match step {
         Step::Let { value, .. } => Ok(Performed::Answer(Outcome::Value(agent.operand(value)?))),
-        Step::Get { of, key, .. } => agent.read(stores, of.as_str(), Reading::Get(key), false),
-        Step::Has { of, key } => agent.read(stores, of.as_str(), Reading::Has(key), false),
-        Step::Describe { of, key } => {
-            agent.read(stores, of.as_str(), Reading::Describe(key), false)
-        }
-        Step::Keys { of } => agent.read(stores, of.as_str(), Reading::Keys, false),
-        Step::Proto { of } => Ok(agent.look(of.as_str(), Looking::Proto)),
-        Step::SetProto { of } => Ok(agent.look(of.as_str(), Looking::SetProto)),
-        Step::Extensible { of } => Ok(agent.look(of.as_str(), Looking::Extensible)),
-        Step::Prevent { of } => Ok(agent.look(of.as_str(), Looking::Prevent)),
+        Step::Get { of, key, .. } => agent.read(stores, of, Reading::Get(key), false),
+        Step::Has { of, key } => agent.read(stores, of, Reading::Has(key), false),
+        Step::Describe { of, key } => agent.read(stores, of, Reading::Describe(key), false),
+        Step::Keys { of } => agent.read(stores, of, Reading::Keys, false),
+        Step::Proto { of } => agent.read(stores, of, Reading::Proto, false),
+        Step::SetProto { of } => agent.read(stores, of, Reading::SetProto, false),
+        Step::Extensible { of } => agent.read(stores, of, Reading::Extensible, false),
+        Step::Prevent { of } => agent.read(stores, of, Reading::Prevent, false),
         Step::Set {
             of,
             key,
@@ -175,7 +194,8 @@ pub fn local<V: View>(
             agent.define(stores, of, key, &given)
         }
         Step::Delete { of, key } => {
-            agent.change(stores, of.as_str(), key, Changing::Delete, false)
+            let operation = Operation::Change(key, Changing::Delete);
+            agent.on_object(stores, of.as_str(), operation, false)
         }
         Step::Call {
             of,

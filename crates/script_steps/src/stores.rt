@@ -1,8 +1,11 @@
-ghost use Rattle.std.specs.Prelude.{◌≡◌, Some, false, option_copied, IfOk, OnOk, OnErr, if◌then◌else◌};
-ghost use Rattle.window_props.specs.Shown.{store_shown};
+ghost use Rattle.std.specs.Prelude.{◌≡◌, ℕ, true, false, option_copied, IsTrue, IfOk, OnOk, OnErr, if◌then◌else◌};
+ghost use Rattle.window_props.specs.Shown.{store_in};
 ghost use Rattle.window_props.specs.Values.{same_object};
 ghost use Rattle.window_props.specs.declared.platform.Object.{Object};
+ghost use Rattle.window_props.specs.declared.platform.Object.TheVariants.{Location};
 ghost use Rattle.object_access.specs.StepAnswer.{first_stores};
+ghost use Rattle.script_steps.specs.Slots.{slot};
+ghost use Rattle.script_steps.specs.Kind.{suits};
 
 use crate::slots::Slots;
 use std::alloc::{AllocError, Global};
@@ -11,30 +14,29 @@ use window_props::{Object, Props};
 /// The properties of Windows and Locations.
 ///
 /// Contracts see `stored stores`, a store for each object: what the platform makes where nothing was changed. An object's
-/// properties are found by its document's number.
+/// properties are kept from its first change on, and are found by its document's number.
 #[derive(Drop)]
 pub struct Stores {
-    alloc: Global,
     windows: Slots<Props>,
     locations: Slots<Props>,
+    ghost suiting: { (d : ℕ) → suits (Location d) (slot locations.slots.items d) ≡ true },
 }
 
 impl Stores {
-    ghost use Rattle.script_steps.specs.Stored.{stored, placed, props_at, HasRoom, IsReady};
+    ghost use Rattle.script_steps.specs.Stored.{stored, placed, props_at, HasRoom};
 
     /// The properties that the platform makes.
     pub fn new(alloc: Global) -> Stores
         ensures { stored result ≡ first_stores }
     {
         Stores {
-            alloc,
             windows: Slots::new(alloc),
             locations: Slots::new(alloc),
         }
     }
 
-    // What is kept of an object's properties.
-    fn get(&self, object: Object) -> Option<&Props>
+    /// What is kept of an object's properties.
+    pub(crate) fn get(&self, object: Object) -> Option<&Props>
         ensures { option_copied result ≡ props_at self.now object }
     {
         match object {
@@ -53,7 +55,6 @@ impl Stores {
         }
     }
 
-    // Takes what is kept of an object's properties out.
     fn take_kept(&mut self, object: Object) -> Option<Props>
         requires { HasRoom self.old object }
         ensures value { result ≡ props_at self.old object }
@@ -66,10 +67,10 @@ impl Stores {
         }
     }
 
-    fn put_kept(&mut self, object: Object, props: Props)
-        requires { HasRoom self.old object }
-        ensures kept { (other : Object) → props_at self.new other ≡ (if same_object other object then Some props else props_at self.old other) }
-        ensures room { HasRoom self.new object }
+    fn put_kept(&mut self, object: Object, props: Option<Props>)
+        requires room { HasRoom self.old object }
+        requires suits { IsTrue (suits object props) }
+        ensures { (other : Object) → props_at self.new other ≡ (if same_object other object then props else props_at self.old other) }
     {
         match object {
             Object::Window(doc) => self.windows.put(doc, props),
@@ -77,42 +78,24 @@ impl Stores {
         }
     }
 
-    /// Makes an object's properties ready to be read and changed. What is stored stays, also after an `Err`.
-    pub(crate) fn ready(&mut self, object: Object) -> Result<(), AllocError>
-        ensures ready { OnOk result (IsReady self.new object) }
-        ensures same { stored self.new ≡ stored self.old }
+    /// Takes what is kept of an object's properties out, so that it can be changed and put back. What is stored of other
+    /// objects stays, and after an `Err` of all.
+    pub(crate) fn take(&mut self, object: Object) -> Result<Option<Props>, AllocError>
+        ensures value { IfOk result (λ props. store_in object props ≡ stored self.old object) }
+        ensures suits { IfOk result (λ props. IsTrue (suits object props)) }
+        ensures rest { OnOk result ((other : Object) → same_object other object ≡ false → stored self.new other ≡ stored self.old other) }
+        ensures room { OnOk result (HasRoom self.new object) }
+        ensures err { OnErr result (stored self.new ≡ stored self.old) }
     {
         self.make_room(object)?;
-        if self.get(object).is_some() {
-            return Ok(());
-        }
-        let props = Props::new(self.alloc, object)?;
-        self.put_kept(object, props);
-        Ok(())
+        Ok(self.take_kept(object))
     }
 
-    /// An object's properties.
-    pub(crate) fn props(&self, object: Object) -> &Props
-        requires { IsReady self.now object }
-        ensures { store_shown result.now ≡ stored self.now object }
-    {
-        self.get(object).unwrap()
-    }
-
-    /// Takes an object's properties out, so that they can be changed and put back.
-    pub(crate) fn take(&mut self, object: Object) -> Props
-        requires { IsReady self.old object }
-        ensures value { store_shown result ≡ stored self.old object }
-        ensures rest { (other : Object) → same_object other object ≡ false → stored self.new other ≡ stored self.old other }
-        ensures room { HasRoom self.new object }
-    {
-        self.take_kept(object).unwrap()
-    }
-
-    /// Puts an object's properties back.
-    pub(crate) fn put(&mut self, object: Object, props: Props)
-        requires { HasRoom self.old object }
-        ensures { stored self.new ≡ placed object (store_shown props) (stored self.old) }
+    /// Puts what is kept of an object's properties back.
+    pub(crate) fn put(&mut self, object: Object, props: Option<Props>)
+        requires room { HasRoom self.old object }
+        requires suits { IsTrue (suits object props) }
+        ensures { stored self.new ≡ placed object (store_in object props) (stored self.old) }
     {
         self.put_kept(object, props);
     }

@@ -1,0 +1,2 @@
+pub mod FirstTask
+pub mod TaskKinds

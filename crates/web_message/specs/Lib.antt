@@ -1,1 +1,2 @@
 pub mod Cloning
+pub mod Tasks

@@ -6,5 +6,6 @@ pub mod Cross
 pub mod Ordinary
 pub mod History
 pub mod Invariants
+pub mod Holding
 pub mod Rows
 pub mod Shown

@@ -3,28 +3,9 @@ ghost use Rattle.window_props.specs.Cross.{cross_names, made_for_others, cross_n
 
 use crate::descriptor::{Body, Descriptor};
 use crate::key::Key;
+use crate::names::{CROSS_LOCATION, CROSS_WINDOW};
 use crate::platform::{Object, Platform};
 use crate::value::Value;
-
-/// What a Window shows to documents of another origin, in order (HTML, CrossOriginProperties).
-pub const CROSS_WINDOW: [Platform; 13] = [
-    Platform::Window,
-    Platform::Itself,
-    Platform::Location,
-    Platform::Close,
-    Platform::Closed,
-    Platform::Focus,
-    Platform::Blur,
-    Platform::Frames,
-    Platform::Length,
-    Platform::Top,
-    Platform::Opener,
-    Platform::Parent,
-    Platform::PostMessage,
-];
-
-/// What a Location shows to documents of another origin, in order (HTML, CrossOriginProperties).
-pub const CROSS_LOCATION: [Platform; 2] = [Platform::Href, Platform::Replace];
 
 /// The names that the object shows to documents of another origin, in order.
 pub fn cross_names(object: Object) -> &'static [Platform]

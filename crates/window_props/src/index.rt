@@ -1,8 +1,10 @@
 ghost use Rattle.std.specs.Prelude.{◌≡◌};
 ghost use Rattle.window_props.specs.Keys.{array_index, index_of, starts_well, value_from, if_index, is_digit};
+ghost use Rattle.window_props.specs.Holding.{can_hold};
 ghost use Rattle.std.specs.List.{list_all};
 
 use crate::key::Key;
+use crate::platform::Object;
 
 // Array indices are below this.
 const INDEX_LIMIT: u64 = 4294967295;
@@ -70,5 +72,15 @@ impl Key {
             Key::Text(text) => index_of(text.as_str().as_bytes()),
             _ => None,
         }
+    }
+}
+
+/// Whether the store of an object can hold a property at the key: that of a Window none at an array index.
+pub(crate) fn can_hold(object: Object, key: &Key) -> bool
+    ensures { result ≡ can_hold object key.now }
+{
+    match object {
+        Object::Window(_) => key.array_index().is_none(),
+        Object::Location(_) => true,
     }
 }

@@ -6,6 +6,7 @@ ghost use Rattle.window_props.specs.Platform as spec;
 
 use crate::descriptor::{Body, Descriptor};
 use crate::key::Key;
+use crate::names::{LOCATION_NAMES, WINDOW_NAMES};
 use crate::value::{Method, Value};
 
 /// An object that a script can change, by its document.
@@ -38,31 +39,6 @@ pub enum Platform {
     Assign,
     Replace,
 }
-
-const WINDOW_NAMES: [Platform; 15] = [
-    Platform::Window,
-    Platform::Itself,
-    Platform::Location,
-    Platform::Close,
-    Platform::Closed,
-    Platform::Focus,
-    Platform::Blur,
-    Platform::Frames,
-    Platform::Length,
-    Platform::Top,
-    Platform::Opener,
-    Platform::Parent,
-    Platform::PostMessage,
-    Platform::Name,
-    Platform::Origin,
-];
-
-const LOCATION_NAMES: [Platform; 4] = [
-    Platform::Href,
-    Platform::Origin,
-    Platform::Assign,
-    Platform::Replace,
-];
 
 /// What a set does to the platform's accessor.
 #[derive(Clone, Copy, Debug)]

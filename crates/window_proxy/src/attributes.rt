@@ -4,6 +4,7 @@ ghost use Rattle.origin_core.specs.Origin.{origin_text};
 ghost use Rattle.tree_log.specs.Tree.{origin_of};
 ghost use Rattle.object_access.specs.WindowAccess as spec;
 ghost use Rattle.object_access.specs.Values.{text};
+ghost use Rattle.object_operations.specs.There.{HasLocation};
 
 use agent_terms::{Ask, Outcome};
 use object_operations::set_href;
@@ -90,8 +91,7 @@ pub(crate) fn window_set<V: View>(
     name: Platform,
     value: &Value,
 ) -> Result<Outcome, AllocError>
-    requires asker { asker < (V.tree view.now).docs }
-    requires doc { doc < (V.tree view.now).docs }
+    requires { HasLocation (V.tree view.now) asker doc }
     ensures { IfOk result (λ o. o ≡ spec.window_set (V.tree view.now) (V.urls view.now) asker doc name value.now) }
 {
     match name {

@@ -7,8 +7,8 @@ mod operations;
 mod window;
 
 pub use agent_terms::{Ask, Op, Outcome, Rule, Ruling};
-pub use object_operations::{Met, access, go, set_href, values};
+pub use object_operations::go;
 pub use operations::{
-    call, define, delete, get, has, own_keys, own_property, prototype, set, verdict,
+    call, define, delete, get, has, is_extensible, own_keys, own_property, prevent_extensions,
+    prototype, set, set_prototype, verdict,
 };
-pub use window::WindowMet;

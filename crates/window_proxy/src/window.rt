@@ -1,5 +1,6 @@
-ghost use Rattle.std.specs.Prelude.{◌≡◌, ◌<◌};
+ghost use Rattle.std.specs.Prelude.{◌≡◌};
 ghost use Rattle.object_access.specs.WindowAccess as spec;
+ghost use Rattle.object_operations.specs.There.{HasWindow};
 
 use crate::attributes::{window_set, window_value};
 use crate::messages::post;
@@ -12,7 +13,7 @@ use window_props::{Key, Kind, Method, Object, Value, named};
 
 /// The Window of a navigable's active document, as a document meets it through the WindowProxy.
 #[derive(Drop)]
-pub struct WindowMet<'a, V> {
+pub(crate) struct WindowMet<'a, V> {
     pub view: &'a V,
     pub asker: u32,
     pub nav: u32,
@@ -28,7 +29,7 @@ impl<'a, V: View> Met for WindowMet<'a, V> {
 
     ghost seen = { λ m. spec.window (V.tree m.view.now) (V.urls m.view.now) m.asker m.nav };
 
-    ghost fits = { λ m. (m.asker < (V.tree m.view.now).docs) × (m.nav < (V.tree m.view.now).navs) };
+    ghost fits = { λ m. HasWindow (V.tree m.view.now) m.asker m.nav };
 
     fn is_own(&self) -> bool {
         self.view

@@ -1,5 +1,5 @@
-ghost use Rattle.std.specs.Prelude.{◌≡◌, IfOk};
-ghost use Rattle.window_props.specs.Shown.{store_shown};
+ghost use Rattle.std.specs.Prelude.{◌≡◌, option_copied, IfOk};
+ghost use Rattle.window_props.specs.Shown.{store_in};
 ghost use Rattle.object_access.specs.Methods as spec;
 
 use crate::access::reading::get;
@@ -55,12 +55,12 @@ fn run_got<M: Met>(
 pub fn call<M: Met>(
     alloc: Global,
     met: &M,
-    props: &Props,
+    props: Option<&Props>,
     key: &Key,
     args: &[Value],
 ) -> Result<Outcome, AllocError>
     requires { M.fits met.now }
-    ensures { IfOk result (λ o. o ≡ spec.called (M.tree met.now) (M.urls met.now) (M.asker met.now) (M.seen met.now) (store_shown props.now) key.now args.now) }
+    ensures { IfOk result (λ o. o ≡ spec.called (M.tree met.now) (M.urls met.now) (M.asker met.now) (M.seen met.now) (store_in (M.seen met.now).object (option_copied props.entry)) key.now args.now) }
 {
     let got = get(alloc, met, props, key)?;
     run_got(alloc, met, key, args, got)

@@ -1,5 +1,5 @@
-ghost use Rattle.std.specs.Prelude.{◌≡◌, IfOk};
-ghost use Rattle.window_props.specs.Shown.{store_shown};
+ghost use Rattle.std.specs.Prelude.{◌≡◌, option_copied, IfOk};
+ghost use Rattle.window_props.specs.Shown.{store_in};
 ghost use Rattle.window_props.specs.Cross.{list_keys, fallback_keys};
 ghost use Rattle.object_access.specs.Access as spec;
 
@@ -7,7 +7,7 @@ use crate::met::Met;
 use agent_terms::Outcome;
 use plain_data::{Items, Text};
 use std::alloc::{AllocError, Global};
-use window_props::{Key, Object, Props, cross_names};
+use window_props::{Key, Object, Props, cross_names, keys_of};
 
 // The keys of the indices, in order.
 #[tactic(auto, unfolding(object_access::specs::Access::index_keys), using(crate::proofs::KeyLaws::next_index))]
@@ -47,13 +47,17 @@ fn fallback_keys(alloc: Global) -> Result<Items<Key>, AllocError>
 
 /// The keys of the own properties, in order.
 #[tactic(auto, unfolding(object_access::specs::Access::keys))]
-pub fn own_keys<M: Met>(alloc: Global, met: &M, props: &Props) -> Result<Outcome, AllocError>
+pub fn own_keys<M: Met>(
+    alloc: Global,
+    met: &M,
+    props: Option<&Props>,
+) -> Result<Outcome, AllocError>
     requires { M.fits met.now }
-    ensures { IfOk result (λ o. o ≡ spec.keys (M.seen met.now) (store_shown props.now)) }
+    ensures { IfOk result (λ o. o ≡ spec.keys (M.seen met.now) (store_in (M.seen met.now).object (option_copied props.entry))) }
 {
     let mut keys = index_keys(alloc, met.count())?;
     if met.is_own() {
-        keys.append(props.keys()?)?;
+        keys.append(keys_of(alloc, met.object(), props)?)?;
         return Ok(Outcome::Keys(keys));
     }
     keys.append(list_keys(alloc, met.object())?)?;

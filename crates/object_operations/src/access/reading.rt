@@ -1,5 +1,5 @@
-ghost use Rattle.std.specs.Prelude.{◌≡◌, IfOk};
-ghost use Rattle.window_props.specs.Shown.{store_shown};
+ghost use Rattle.std.specs.Prelude.{◌≡◌, option_copied, IfOk};
+ghost use Rattle.window_props.specs.Shown.{store_in};
 ghost use Rattle.object_access.specs.Access as spec;
 
 use crate::access::foreign::{child_property, foreign_property};
@@ -7,20 +7,20 @@ use crate::met::Met;
 use crate::values::{null, undefined};
 use agent_terms::{Outcome, Rule};
 use std::alloc::{AllocError, Global};
-use window_props::{Body, Descriptor, Key, Props, Value};
+use window_props::{Body, Descriptor, Key, Props, Value, own_of};
 
 // The object's own property.
 #[tactic(auto, unfolding(object_access::specs::Access::own_property))]
 fn own_descriptor<M: Met>(
     met: &M,
-    props: &Props,
+    props: Option<&Props>,
     key: &Key,
 ) -> Result<Option<Descriptor>, AllocError>
     requires { M.fits met.now }
-    ensures { IfOk result (λ d. d ≡ spec.own_property (M.seen met.now) (store_shown props.now) key.now) }
+    ensures { IfOk result (λ d. d ≡ spec.own_property (M.seen met.now) (store_in (M.seen met.now).object (option_copied props.entry)) key.now) }
 {
     match met.index(key) {
-        None => props.own(key),
+        None => own_of(met.object(), props, key),
         Some(index) => match met.child(index) {
             None => Ok(None),
             Some(nav) => Ok(Some(child_property(true, nav))),
@@ -30,9 +30,13 @@ fn own_descriptor<M: Met>(
 
 /// How an own property is described.
 #[tactic(auto, unfolding(object_access::specs::Access::described))]
-pub fn own_property<M: Met>(met: &M, props: &Props, key: &Key) -> Result<Outcome, AllocError>
+pub fn own_property<M: Met>(
+    met: &M,
+    props: Option<&Props>,
+    key: &Key,
+) -> Result<Outcome, AllocError>
     requires { M.fits met.now }
-    ensures { IfOk result (λ o. o ≡ spec.described (M.seen met.now) (store_shown props.now) key.now) }
+    ensures { IfOk result (λ o. o ≡ spec.described (M.seen met.now) (store_in (M.seen met.now).object (option_copied props.entry)) key.now) }
 {
     if met.is_own() {
         return Ok(Outcome::Own(own_descriptor(met, props, key)?));
@@ -84,9 +88,14 @@ fn got_foreign<M: Met>(alloc: Global, met: &M, key: &Key) -> Result<Outcome, All
 
 /// What a get answers.
 #[tactic(auto, unfolding(object_access::specs::Access::got))]
-pub fn get<M: Met>(alloc: Global, met: &M, props: &Props, key: &Key) -> Result<Outcome, AllocError>
+pub fn get<M: Met>(
+    alloc: Global,
+    met: &M,
+    props: Option<&Props>,
+    key: &Key,
+) -> Result<Outcome, AllocError>
     requires { M.fits met.now }
-    ensures { IfOk result (λ o. o ≡ spec.got (M.seen met.now) (store_shown props.now) key.now) }
+    ensures { IfOk result (λ o. o ≡ spec.got (M.seen met.now) (store_in (M.seen met.now).object (option_copied props.entry)) key.now) }
 {
     if met.is_own() {
         let property = own_descriptor(met, props, key)?;
@@ -97,9 +106,9 @@ pub fn get<M: Met>(alloc: Global, met: &M, props: &Props, key: &Key) -> Result<O
 
 /// Whether there is a property.
 #[tactic(auto, unfolding(object_access::specs::Access::has))]
-pub fn has<M: Met>(met: &M, props: &Props, key: &Key) -> Result<Outcome, AllocError>
+pub fn has<M: Met>(met: &M, props: Option<&Props>, key: &Key) -> Result<Outcome, AllocError>
     requires { M.fits met.now }
-    ensures { IfOk result (λ o. o ≡ spec.has (M.seen met.now) (store_shown props.now) key.now) }
+    ensures { IfOk result (λ o. o ≡ spec.has (M.seen met.now) (store_in (M.seen met.now).object (option_copied props.entry)) key.now) }
 {
     if met.is_own() {
         return match own_descriptor(met, props, key)? {
@@ -123,4 +132,28 @@ pub fn prototype<M: Met>(met: &M) -> Outcome
         return Outcome::Value(Value::Prototype(met.kind()));
     }
     Outcome::Value(null())
+}
+
+/// What a set of the prototype to null answers. It takes no memory.
+pub fn set_prototype<M: Met>(met: &M) -> Outcome
+    requires { M.fits met.now }
+    ensures { result ≡ spec.prototype_set (M.seen met.now) }
+{
+    Outcome::Truth(!met.is_own())
+}
+
+/// Whether the object is extensible: it is. It takes no memory.
+pub fn is_extensible<M: Met>(_met: &M) -> Outcome
+    requires { M.fits _met.now }
+    ensures { result ≡ spec.extensible (M.seen _met.now) }
+{
+    Outcome::Truth(true)
+}
+
+/// What an end to the object's extensions answers: it is done for none. It takes no memory.
+pub fn prevent_extensions<M: Met>(_met: &M) -> Outcome
+    requires { M.fits _met.now }
+    ensures { result ≡ spec.prevented (M.seen _met.now) }
+{
+    Outcome::Truth(false)
 }

@@ -24,8 +24,8 @@ pub returns-in-Delete-clause-ok : goal.returns-in-Delete-clause-ok
 unfolding perform
 returns-in-Delete-clause-ok g c =
     let s : Sight = sight (g.V.View.tree c.args.view.now) (g.V.View.urls c.args.view.now) (kept c.args.registers.now) (stored c.args.stores.now) in
-    let P : List ℕ → Type 0 = λ of. IfOk c.change.result (λ p. p ≡ on_object s c.args.doc false of (λ seen. access.deleted seen (s.stores seen.object) c.in-Delete.key)) in
-    subst (λ (step : Step). IfOk c.change.result (λ p. p ≡ perform s c.args.doc step)) (sym c.in-Delete.is) (subst P c.as_str-in-Delete.ensures c.change.ensures.ok)
+    let P : List ℕ → Type 0 = λ of. IfOk c.on_object.result (λ p. p ≡ on_object s c.args.doc false of (λ seen. access.deleted seen (s.stores seen.object) c.in-Delete.key)) in
+    subst (λ (step : Step). IfOk c.on_object.result (λ p. p ≡ perform s c.args.doc step)) (sym c.in-Delete.is) (subst P c.as_str.ensures c.on_object.ensures.ok)
 
 pub returns-in-Call-clause-ok : goal.returns-in-Call-clause-ok
 unfolding perform

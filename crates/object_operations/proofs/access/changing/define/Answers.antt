@@ -1,6 +1,6 @@
-use Rattle.std.proofs.Common.{◌∙◌}
-use Rattle.object_operations.proofs.KeptLaws.{defined_kept}
+use Rattle.window_props.specs.History.{define_at}
+use Rattle.object_operations.proofs.KeptLaws.{done_kept}
 use Rattle.object_operations.proofs.access.changing.define.Goals as goal
 
 pub returns-clause-kept : goal.returns-clause-kept
-returns-clause-kept g c = λ other. c.in_ok-outcome.ensures.left ∙ defined_kept _ _ _ _ (λ e. other (c.in_ok-outcome.ensures.ok ∙ e))
+returns-clause-kept g c = done_kept _ _ c.args.props.now c.define_stored.new.props (define_at c.args.key.now c.args.change) _ c.object.ensures c.in_ok-answer.ensures.ok c.in_ok-answer.ensures.after

@@ -1,15 +1,13 @@
-use Rattle.std.proofs.Common.{sym, ap, ◌∙◌}
-use Rattle.agent_terms.specs.declared.outcome.Outcome.{Outcome}
-use Rattle.object_access.specs.StepAnswer.{performed}
+use Rattle.std.proofs.Common.{◌≡◌, ℕ, List, subst}
+use Rattle.std.specs.Prelude.{IfOk}
+use Rattle.object_access.specs.StepAnswer.{Sight, on_object}
+use Rattle.script_steps.specs.Kept.{kept}
 use Rattle.script_steps.specs.Stored.{stored}
-use Rattle.script_steps.proofs.ObjectLaws.{on_reached, on_none}
+use Rattle.script_steps.specs.Reached.{sight}
+use Rattle.script_steps.specs.Asked.{asked}
 use Rattle.script_steps.proofs.agent.Agent.read.Goals as goal
-
-pub returns-in-None-clause-ok : goal.returns-in-None-clause-ok
-returns-in-None-clause-ok g c = sym (on_none _ _ _ _ _ (c.in-None.ensures.value (stored c.args.stores.now)))
 
 pub returns-clause-ok : goal.returns-clause-ok
 returns-clause-ok g c =
-    c.performed.ensures
-    ∙ ap (λ (o : Outcome). performed c.args.self.now.doc c.args.user o) c.in_ok-outcome.ensures.ok
-    ∙ sym (on_reached _ _ _ _ _ c.in-Some.reached (c.in-Some.ensures.value (stored c.args.stores.now)))
+    let s : Sight = sight (g.V.View.tree c.args.self.now.view.now) (g.V.View.urls c.args.self.now.view.now) (kept c.args.self.now.registers.now) (stored c.args.stores.now) in
+    subst (λ (of : List ℕ). IfOk c.on_object.result (λ p. p ≡ on_object s c.args.self.now.doc c.args.user of (λ seen. asked s.tree s.urls c.args.self.now.doc c.args.reading seen (s.stores seen.object)))) c.as_str.ensures c.on_object.ensures.ok

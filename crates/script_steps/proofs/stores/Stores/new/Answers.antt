@@ -1,14 +1,12 @@
-use Rattle.std.proofs.Common.{◌≡◌, [], ap}
-use Rattle.window_props.specs.declared.platform.Object.{Object}
+use Rattle.std.proofs.Common.{◌∙◌, ap}
 use Rattle.window_props.specs.declared.platform.Object.TheVariants as object
-use Rattle.window_props.specs.History.{store_of}
-use Rattle.script_steps.specs.Stored.{stored, store_in, props_at}
+use Rattle.script_steps.specs.Kind.{suits}
+use Rattle.script_steps.proofs.StoredLaws.{stored_fresh}
+use Rattle.script_steps.proofs.SuitLaws.{suits_none}
 use Rattle.script_steps.proofs.stores.Stores.new.Goals as goal
 
+pub invariant_of-result : goal.invariant_of-result
+invariant_of-result c = record { suiting = λ d. ap (suits (object.Location d)) (c.new-2.ensures d) ∙ suits_none (object.Location d) }
+
 pub returns : goal.returns
-unfolding stored
-returns c = λ i o. fresh o i
-  where
-    fresh : (o : Object) → store_in o (props_at (record { alloc = c.args.alloc; windows = c.new.result; locations = c.new-2.result }) o) ≡ store_of o []
-    fresh (object.Window d) = ap (λ k. store_in (object.Window d) k) (c.new.ensures d)
-    fresh (object.Location d) = ap (λ k. store_in (object.Location d) k) (c.new-2.ensures d)
+returns c = stored_fresh _ c.new.ensures c.new-2.ensures
