@@ -1,0 +1,5 @@
+mod Places
+mod Keys
+mod Found
+mod Answered
+mod Grown

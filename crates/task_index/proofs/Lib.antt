@@ -1,0 +1,4 @@
+pub mod Rows
+pub mod FirstTasks
+pub mod Later
+pub mod Feeding
