@@ -26,7 +26,7 @@ use Rattle.object_access.specs.Values.{null}
 use Rattle.agent_terms.specs.Built.{is_made}
 use Rattle.origin_core.specs.Flags.{union}
 use Rattle.coordinator_rules.specs.Navigation.{flags_in}
-use Rattle.coordinator_rules.specs.Decision.{Rules, rules_of, frame_entry, Decision, decide, is_fragment, asker_of, home_if_active, asked_decision, exchange}
+use Rattle.coordinator_rules.specs.Decision.{Rules, rules_of, frame_entry, Decision, decide, is_in_fragment, asker_of, home_if_active, asked_decision, exchange}
 use Rattle.object_access.specs.Registers.{value_in}
 use Rattle.single_agent.specs.Running.{Left, one_more}
 use Rattle.single_agent.specs.Sights.{registers_after}
@@ -88,7 +88,7 @@ navs_more : (e : Entry) (log : List Entry) → (tree_of (e ∷ log)).navs ≡ na
 unfolding tree_of
 navs_more e log = refl
 
-decided_there : (rules : Rules) (log : List Entry) (f : Bool) (r : ℕ) (q : Request) (nav : ℕ) → is_made q ≡ true → (decide rules (tree_of log) f r q).outcome ≡ reply.Made nav
+decided_there : (rules : Rules) (log : List Entry) (f : ℕ → List ℕ → Bool) (r : ℕ) (q : Request) (nav : ℕ) → is_made q ≡ true → (decide rules (tree_of log) f r q).outcome ≡ reply.Made nav
     → nav < (tree_of ((decide rules (tree_of log) f r q).entries ++ log)).navs
 unfolding decide is_made
 decided_there rules log f r (ask.Sync asker) nav made h = absurd cc
@@ -108,7 +108,7 @@ made_there rules log r q nav made h = by (is_active (tree_of log) (asker_of q)) 
   by true active =
       let d = asked_active rules log r q active in
       subst (λ (x : Decision). nav < (tree_of (x.entries ++ log)).navs) (sym d)
-      (decided_there rules log (is_fragment (tree_of log) (url_of log) q) r q nav made (sym (ap (λ (x : Decision). x.outcome) d) ∙ h))
+      (decided_there rules log (is_in_fragment (tree_of log) (url_of log)) r q nav made (sym (ap (λ (x : Decision). x.outcome) d) ∙ h))
   by false ended = let d = ap (λ (x : Decision). x.outcome) (asked_ended rules log r q ended) in let clash : reply.Unloaded _ ≡ reply.Made nav = sym d ∙ h in absurd cc
 
 -- the window that an answer holds is there once the log is heard

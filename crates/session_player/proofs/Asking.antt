@@ -1,22 +1,19 @@
 -- What the coordinator decides on a request that steps make.
-use Rattle.std.proofs.Common.{◌≡◌, ℕ, ◌+◌, ◌<◌, ◌≤◌, ◌^◌, List, [], ◌∷◌, length, drop, Option, Some, None, Bool, true, false, zero, suc, refl, sym, ap, subst, ◌∙◌, arith}
-use Rattle.std.specs.Prelude.{All, slice_get, ◌==◌, ◌||◌, if◌then◌else◌}
-use Rattle.std.proofs.lemmas.List.Elements.{All-nil, All-push}
+use Rattle.std.proofs.Common.{◌≡◌, ℕ, ◌+◌, ◌<◌, ◌≤◌, ◌^◌, List, [], ◌∷◌, length, drop, Some, None, Bool, true, false, zero, suc, refl, sym, ap, subst, ◌∙◌, arith}
+use Rattle.std.specs.Prelude.{slice_get, ◌==◌, ◌||◌, if◌then◌else◌}
 use Rattle.tree_log.specs.declared.entry.Entry.{Entry}
-use Rattle.tree_log.specs.declared.entry.Load.{Load}
 use Rattle.tree_log.specs.declared.entry.What.{What}
-use Rattle.tree_log.specs.declared.entry.What.TheVariants.{Open, Frame, Drop, Begin, Sync}
-use Rattle.tree_log.specs.Facts.{gathered, loads_after, with_load}
+use Rattle.tree_log.specs.declared.entry.What.TheVariants.{Frame, Drop, Sync}
 use Rattle.tree_log.specs.Tree.{Tree, tree_of, is, home_of, is_active, nav_of, children_of}
 use Rattle.tree_log.specs.Urls.{url_of}
 use Rattle.tree_log.specs.Admits.{admits, AreAdmitted}
-use Rattle.tree_log.proofs.Admitted.{StandsIfAny, TaskStands, AllStand, tasks_stand, few_of}
+use Rattle.tree_log.proofs.Admitted.{few_of}
 use Rattle.origin_core.specs.Flags.{union}
 use Rattle.agent_terms.specs.declared.request.Request.{Request}
 use Rattle.agent_terms.specs.declared.request.Request.TheVariants as ask
 use Rattle.agent_terms.specs.declared.request.ReplyOutcome.TheVariants as outcome
 use Rattle.coordinator_rules.specs.Navigation.{flags_in, is_in}
-use Rattle.coordinator_rules.specs.Decision.{Rules, Decision, by, decide, is_fragment, asker_of, end_of, home_if_active, asked_decision}
+use Rattle.coordinator_rules.specs.Decision.{Rules, Decision, by, decide, is_in_fragment, asker_of, end_of, home_if_active, asked_decision}
 use Rattle.single_agent.proofs.Admitted.{sync_admitted, drop_admitted, frame_admitted}
 use Rattle.agent_laws.proofs.Groups.Well.{admitted_well}
 use Rattle.session_player.specs.declared.requests.Replied.{Replied}
@@ -44,29 +41,6 @@ not_there log d r all far = not_been (tree_of log) d r (never ((tree_of log).doc
   never : (b : Bool) → ((tree_of log).doc d).been_active ≡ b → b ≡ false
   never true h = let lt : d < (tree_of log).docs = (admitted_well log all).shown d h in absurd (omega arith)
   never false h = refl
-
--- LOADED DOCUMENTS
-
-if_loaded : (t : Tree) (nav : ℕ) (load : Option Load) (before : List ℕ) → StandsIfAny t nav load → All (λ d. d < t.docs) before → All (λ d. d < t.docs) (with_load load before)
-if_loaded t nav None before s all = all
-if_loaded t nav (Some load) before s all = All-push (λ d. d < t.docs) before load.doc all s.doc
-
-loaded_there : (t : Tree) (w : What) (before : List ℕ) → TaskStands t w → All (λ d. d < t.docs) before → All (λ d. d < t.docs) (loads_after w before)
-loaded_there t (Open nav _ _ _ _ _ _ _ _ load) before s all = if_loaded t nav load before s all
-loaded_there t (Frame nav _ _ _ _ _ load) before s all = if_loaded t nav load before s all
-loaded_there t (Begin nav load) before s all = if_loaded t nav (Some load) before s all
-loaded_there t _ before s all = all
-
-gathered_there : (t : Tree) (log : List Entry) → AllStand t log → All (λ d. d < t.docs) (gathered (λ (e : Entry). loads_after e.what) [] log)
-gathered_there t [] s = All-nil (λ d. d < t.docs)
-gathered_there t (e ∷ older) s = loaded_there t e.what _ s.0 (gathered_there t older s.1)
-
-loads_are : (log : List Entry) → (tree_of log).loads ≡ gathered (λ (e : Entry). loads_after e.what) [] log
-unfolding tree_of
-loads_are log = refl
-
-pub loads_there : (log : List Entry) → AreAdmitted log → All (λ d. d < (tree_of log).docs) (tree_of log).loads
-loads_there log all = subst (λ (xs : List ℕ). All (λ d. d < (tree_of log).docs) xs) (sym (loads_are log)) (gathered_there (tree_of log) log (tasks_stand log all))
 
 pub few_docs : (log : List Entry) → length log < 2 ^ 30 → (tree_of log).docs < 2 ^ 31
 few_docs log h = let few = (few_of log).docs in omega arith
@@ -109,7 +83,7 @@ pub asked_ended : (rules : Rules) (log : List Entry) (r : ℕ) (q : Request) →
 unfolding asked_decision
 asked_ended rules log r q h = if_no (is_active (tree_of log) (asker_of q)) _ _ h
 
-pub asked_active : (rules : Rules) (log : List Entry) (r : ℕ) (q : Request) → is_active (tree_of log) (asker_of q) ≡ true → asked_decision rules log r q ≡ decide rules (tree_of log) (is_fragment (tree_of log) (url_of log) q) r q
+pub asked_active : (rules : Rules) (log : List Entry) (r : ℕ) (q : Request) → is_active (tree_of log) (asker_of q) ≡ true → asked_decision rules log r q ≡ decide rules (tree_of log) (is_in_fragment (tree_of log) (url_of log)) r q
 unfolding asked_decision
 asked_active rules log r q h = if_yes (is_active (tree_of log) (asker_of q)) _ _ h
 
@@ -117,7 +91,7 @@ pub record IsDecided (d : Decision) (r asker : ℕ) (w : What) (reply : Replied)
   pub entries : d.entries ≡ by r asker w ∷ []
   pub replies : Replies reply d.outcome
 
-decided : (rules : Rules) (t : Tree) (f : Bool) (r : ℕ) (q : Request) (w : What) (reply : Replied) → Decides rules t q w reply → IsDecided (decide rules t f r q) r (asker_of q) w reply
+decided : (rules : Rules) (t : Tree) (f : ℕ → List ℕ → Bool) (r : ℕ) (q : Request) (w : What) (reply : Replied) → Decides rules t q w reply → IsDecided (decide rules t f r q) r (asker_of q) w reply
 unfolding decide
 decided rules t f r (ask.Sync asker) w reply h =
     record { entries = ap (λ x. by r asker x ∷ []) (sym h.0); replies = subst (λ (p : Replied). Replies p outcome.Done) (sym h.1) refl }
@@ -130,7 +104,7 @@ decided rules t f r _ w reply h = absurd h
 pub asked_decided : (rules : Rules) (log : List Entry) (r : ℕ) (q : Request) (w : What) (reply : Replied) → is_active (tree_of log) (asker_of q) ≡ true → Decides rules (tree_of log) q w reply
     → IsDecided (asked_decision rules log r q) r (asker_of q) w reply
 asked_decided rules log r q w reply active h =
-    subst (λ (d : Decision). IsDecided d r (asker_of q) w reply) (sym (asked_active rules log r q active)) (decided rules (tree_of log) (is_fragment (tree_of log) (url_of log) q) r q w reply h)
+    subst (λ (d : Decision). IsDecided d r (asker_of q) w reply) (sym (asked_active rules log r q active)) (decided rules (tree_of log) (is_in_fragment (tree_of log) (url_of log)) r q w reply h)
 
 drop_or_sync : (log : List Entry) (r asker nav : ℕ) (b : Bool) → length log < 2 ^ 30 → asker < (tree_of log).docs → is_active (tree_of log) asker ≡ true → (b ≡ true → nav < (tree_of log).navs)
     → admits (tree_of log) (by r asker (if b then Drop nav else Sync)) ≡ true

@@ -3,13 +3,13 @@ use Rattle.std.proofs.Common.{◌≡◌, ℕ, ◌≤◌, List, [], ◌∷◌, �
 use Rattle.std.specs.Prelude.{◌||◌, ◌==◌, if◌then◌else◌}
 use Rattle.tree_log.specs.declared.entry.Entry.{Entry}
 use Rattle.tree_log.specs.declared.entry.What.TheVariants.{Opener, Sync}
-use Rattle.tree_log.specs.Tree.{Tree, tree_of, is_active, nav_of, origin_of, same_domain}
+use Rattle.tree_log.specs.Tree.{Tree, tree_of, is_active, nav_of, same_domain}
 use Rattle.tree_log.specs.Urls.{url_of}
 use Rattle.agent_terms.specs.declared.request.Request.{Request}
 use Rattle.agent_terms.specs.declared.request.Request.TheVariants as ask
 use Rattle.agent_terms.specs.declared.request.ReplyOutcome.TheVariants.{Security}
 use Rattle.coordinator_rules.specs.Navigation.{may_navigate, Choice, Existing, New, Nothing, choice}
-use Rattle.coordinator_rules.specs.Decision.{Rules, Decision, by, one, navigation, opener_entry, or_sync, made_or_null, open_chosen, is_live, decide, is_fragment, asker_of, asked_decision}
+use Rattle.coordinator_rules.specs.Decision.{Rules, Decision, by, one, navigation, opener_entry, or_sync, made_or_null, open_chosen, is_live, decide, is_in_fragment, asker_of, asked_decision}
 use Rattle.single_agent.specs.Turns.{HasRoom}
 
 Few : Decision → Type 0
@@ -32,16 +32,16 @@ few_sync : (r asker : ℕ) (b : Bool) (x : Entry) → length (or_sync r asker (i
 few_sync r asker true x = omega arith
 few_sync r asker false x = omega arith
 
-few_chosen : (rules : Rules) (t : Tree) (f : Bool) (r asker : ℕ) (url : Option (List ℕ)) (name : List ℕ) (noopener user : Bool) (c : Choice) → Few (open_chosen rules t f r asker url name noopener user c)
+few_chosen : (rules : Rules) (t : Tree) (f : ℕ → List ℕ → Bool) (r asker : ℕ) (url : Option (List ℕ)) (name : List ℕ) (noopener user : Bool) (c : Choice) → Few (open_chosen rules t f r asker url name noopener user c)
 unfolding Few
 few_chosen rules t f r asker url name noopener user Nothing = omega arith
 few_chosen rules t f r asker url name noopener user New = omega arith
 few_chosen rules t f r asker None name noopener user (Existing n) = few_sync r asker (noopener || n == nav_of t asker) (by r asker (Opener n (Some (nav_of t asker))))
 few_chosen rules t f r asker (Some url) name noopener user (Existing n) =
-    few_if (may_navigate t (nav_of t asker) n user) (record { entries = opener_entry t r asker noopener n ++ by r asker (navigation rules t f asker n url) ∷ []; outcome = made_or_null noopener n }) (one r asker Sync (Security 7))
-    (few_front (noopener || n == nav_of t asker) (by r asker (Opener n (Some (nav_of t asker)))) (by r asker (navigation rules t f asker n url))) (omega arith)
+    few_if (may_navigate t (nav_of t asker) n user) (record { entries = opener_entry t r asker noopener n ++ by r asker (navigation rules t (f n url) asker n url) ∷ []; outcome = made_or_null noopener n }) (one r asker Sync (Security 7))
+    (few_front (noopener || n == nav_of t asker) (by r asker (Opener n (Some (nav_of t asker)))) (by r asker (navigation rules t (f n url) asker n url))) (omega arith)
 
-few_decided : (rules : Rules) (t : Tree) (f : Bool) (r : ℕ) (q : Request) → Few (decide rules t f r q)
+few_decided : (rules : Rules) (t : Tree) (f : ℕ → List ℕ → Bool) (r : ℕ) (q : Request) → Few (decide rules t f r q)
 unfolding decide Few
 few_decided rules t f r ask.Next = omega arith
 few_decided rules t f r (ask.Open asker url name noopener user) = few_chosen rules t f r asker url name noopener user (choice t (nav_of t asker) name noopener user)
@@ -59,4 +59,4 @@ if_few false log c d few none short room = let l = length-append d.entries log i
 pub asked_few : (rules : Rules) (log : List Entry) (r : ℕ) (q : Request) → length log ≤ 20000 → (is_active (tree_of log) (asker_of q) ≡ true → HasRoom log) → length ((asked_decision rules log r q).entries ++ log) ≤ 20000
 unfolding asked_decision
 asked_few rules log r q short room =
-    if_few (is_active (tree_of log) (asker_of q)) log (decide rules (tree_of log) (is_fragment (tree_of log) (url_of log) q) r q) _ (few_decided rules (tree_of log) (is_fragment (tree_of log) (url_of log) q) r q) refl short room
+    if_few (is_active (tree_of log) (asker_of q)) log (decide rules (tree_of log) (is_in_fragment (tree_of log) (url_of log)) r q) _ (few_decided rules (tree_of log) (is_in_fragment (tree_of log) (url_of log)) r q) refl short room

@@ -1,10 +1,8 @@
-pub mod FirstTask
 pub mod Leaves
 pub mod There
 pub mod Results
 pub mod Asking
 pub mod Quiet
-pub mod Entries
 pub mod Growth
 pub mod Few
 pub mod Asked
@@ -15,3 +13,4 @@ pub mod Keeping
 pub mod Turning
 pub mod Rounds
 pub mod Begins
+pub mod BuiltLaws

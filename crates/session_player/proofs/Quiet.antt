@@ -8,6 +8,7 @@ use Rattle.tree_log.specs.declared.entry.Entry.{Entry}
 use Rattle.tree_log.specs.declared.entry.Load.{Load}
 use Rattle.tree_log.specs.declared.entry.What.{What}
 use Rattle.tree_log.specs.declared.entry.What.TheVariants.{Open, Frame, Drop, Begin, Commit, Post, Closing, Sync}
+use Rattle.tree_log.specs.Range.{HasAscendingKeys}
 use Rattle.tree_log.specs.Tree.{Tree, tree_of, children_of}
 use Rattle.tree_log.proofs.Admitted.{both}
 use Rattle.agent_terms.specs.declared.request.Request.{Request}
@@ -55,6 +56,11 @@ first_commits t over r (e ∷ older) what quiet h =
 pub next_commits : (log : List Entry) (r : ℕ) (what : What) → are_quiet log ≡ true → next_task log r ≡ Some what → is_commit what ≡ true
 unfolding next_task
 next_commits log r what quiet h = first_commits (tree_of log) (is_over log) r log what quiet h
+
+-- an entry that keeps a log quiet has no data
+pub quiet_ascends : (what : What) → is_quiet what ≡ true → HasAscendingKeys what
+quiet_ascends (Post _ _ _ _ _) h = absurd cc
+quiet_ascends _ h = tt
 
 -- a commit keeps a log quiet
 pub commit_quiet : (what : What) → is_commit what ≡ true → is_quiet what ≡ true

@@ -1,14 +1,13 @@
 -- What a worker holds leads to windows and documents of their group alone, and stays so.
 use Rattle.std.proofs.Common.{◌≡◌, ℕ, ◌<◌, ◌^◌, List, [], ◌∷◌, ◌++◌, length, Option, Some, None, Bool, true, false, refl, sym, ap, subst, ◌∙◌}
-use Rattle.std.specs.Prelude.{◌==◌, ◌&&◌, nat_le, bytes_eq, slice_get, option_and_then, if◌then◌else◌}
-use Rattle.std.specs.Option.{option_map}
+use Rattle.std.specs.Prelude.{nat_le, option_and_then, if◌then◌else◌}
 use Rattle.window_props.specs.declared.value.Value.{Value}
 use Rattle.window_props.specs.declared.value.Value.TheVariants as value
 use Rattle.window_props.specs.declared.platform.Object.{Object}
 use Rattle.window_props.specs.History.{Store}
 use Rattle.tree_log.specs.declared.entry.Entry.{Entry}
 use Rattle.tree_log.specs.Log.{prefix}
-use Rattle.tree_log.specs.Tree.{Tree, tree_of, is_active}
+use Rattle.tree_log.specs.Tree.{Tree, tree_of}
 use Rattle.tree_log.specs.Urls.{url_of}
 use Rattle.tree_log.specs.Admits.{AreAdmitted}
 use Rattle.agent_terms.specs.declared.session.Session.{Session}
@@ -25,19 +24,14 @@ use Rattle.agent_terms.specs.declared.outcome.Outcome.TheVariants as outcome
 use Rattle.tree_log.specs.declared.entry.What.{What}
 use Rattle.agent_terms.specs.declared.request.Request.{Request}
 use Rattle.agent_terms.specs.declared.request.Request.TheVariants as ask
-use Rattle.agent_terms.specs.declared.request.ReplyOutcome.{ReplyOutcome}
-use Rattle.agent_terms.specs.declared.request.ReplyOutcome.TheVariants as reply
 use Rattle.agent_terms.specs.declared.step.OpName.{OpName}
-use Rattle.agent_terms.specs.declared.step.OpName.TheVariants as op
-use Rattle.single_agent.specs.Session.{steps_of}
-use Rattle.object_access.specs.Registers.{written, to_of, value_in, written_to}
-use Rattle.object_access.specs.Values.{null}
+use Rattle.object_access.specs.Registers.{to_of, value_in}
 use Rattle.coordinator_rules.specs.NextTask.{next_task, task_entry}
 use Rattle.coordinator_rules.specs.Decision.{Rules, rules_of, Decision, task_decision, exchange, asker_of}
 use Rattle.object_access.specs.StepAnswer.{Sight, perform}
-use Rattle.single_agent.specs.Running.{Left, made_before, left_at, left_on}
+use Rattle.single_agent.specs.Running.{Left, left_on}
 use Rattle.single_agent.specs.Sights.{registers_after}
-use Rattle.single_agent.specs.NextAct.{rule_of, done_of, answer_of}
+use Rattle.single_agent.specs.NextAct.{answer_of}
 use Rattle.single_agent.specs.NextMove.{op_of, move_by, move_of}
 use Rattle.single_agent.proofs.Made.{next_gives}
 use Rattle.agent_laws.specs.Belonging.{Belongs, RegistersBelong, StoresBelong, IsClosed}
@@ -46,23 +40,13 @@ use Rattle.agent_laws.proofs.Groups.Grouped.{registers_grown, stores_grown}
 use Rattle.agent_laws.proofs.Groups.Reached.{held_belongs}
 use Rattle.agent_laws.proofs.Groups.Changed.{answer_belongs, changed_belongs}
 use Rattle.agent_laws.proofs.Groups.Closed.{closed_exchange}
-use Rattle.agent_laws.proofs.Groups.MadeWindows.{made_belongs}
+use Rattle.agent_laws.proofs.Groups.Written.{left_doc, to_belongs, reply_belongs}
 use Rattle.agent_laws.proofs.Logs.Asked.{IsAskedBy, asked_by}
 use Rattle.script_steps.specs.Reached.{IsValueThere}
 use Rattle.session_player.specs.Steps.{Holds, IsSound, IsOwnRun, ActsLocally, ActsByAsking, sight_in, left_now, move_now, stores_then}
 use Rattle.session_player.specs.Serves.{Ledger}
 
 -- WHOSE STEP IT IS
-
-left_doc : (s : Session) (t : Tree) (urls : ℕ → List ℕ) (run : Running) (left : Left) → left_on s t urls run ≡ Some left → run.doc ≡ left.doc
-left_doc s t urls run left h = by (is_active t run.doc) h where
-  at : (found : Option Step) → option_map (left_at run) found ≡ Some left → run.doc ≡ left.doc
-  at None e = absurd cc
-  at (Some step) e = let same : left_at run step ≡ left = cc in ap (λ (l : Left). l.doc) same
-
-  by : (b : Bool) → (if b then option_map (left_at run) (slice_get (steps_of s t urls run.doc run.point) (made_before run.point)) else None) ≡ Some left → run.doc ≡ left.doc
-  by true e = at (slice_get (steps_of s t urls run.doc run.point) (made_before run.point)) e
-  by false e = absurd cc
 
 doc_there : (s : Session) (r : ℕ) (t : Tree) (urls : ℕ → List ℕ) (run : Option Running) (left : Left) → IsOwnRun r t run → option_and_then (left_on s t urls) run ≡ Some left → left.doc < t.docs
 doc_there s r t urls None left own h = absurd cc
@@ -73,18 +57,6 @@ pub left_there : (s : Session) (r : ℕ) (w : Holds) (left : Left) → IsOwnRun 
 left_there s r w left own h = doc_there s r w.tree w.urls w.run left own h
 
 -- REGISTERS
-
-written_belongs : (t : Tree) (registers : ℕ → List ℕ → Value) (d : ℕ) (name : List ℕ) (v : Value) → RegistersBelong t registers → Belongs t d v → RegistersBelong t (written d name v registers)
-unfolding written
-written_belongs t registers d name v all here e other = by (e == d) (bytes_eq other name) refl where
-  by : (a b : Bool) → (e == d) ≡ a → Belongs t e (if a && b then v else registers e other)
-  by true true same = subst (λ x. Belongs t x v) (sym (Rattle.tree_log.proofs.Admitted.eq_of e d same)) here
-  by true false same = all e other
-  by false b same = all e other
-
-pub to_belongs : (t : Tree) (registers : ℕ → List ℕ → Value) (d : ℕ) (to : Option (List ℕ)) (v : Value) → RegistersBelong t registers → Belongs t d v → RegistersBelong t (written_to d to v registers)
-to_belongs t registers d None v all here = all
-to_belongs t registers d (Some name) v all here = written_belongs t registers d name v all here
 
 -- they hold objects of a document's group alone
 pub held_group : (log : List Entry) (registers : ℕ → List ℕ → Value) (stores : Object → Store) (d : ℕ) → IsClosed (tree_of log) → d < (tree_of log).docs → RegistersBelong (tree_of log) registers
@@ -165,26 +137,6 @@ sound_heard own log k w v all closed sound at tree registers stores = record {
 }
 
 -- A STEP THAT ASKS
-
-done_belongs : (t : Tree) (d : ℕ) (o : OpName) → Belongs t d (value_in (done_of o))
-done_belongs t d op.Set = tt
-done_belongs t d _ = tt
-
-replied : (t : Tree) (d : ℕ) (o : OpName) (q : ReplyOutcome) (given : AnswerOf) → Some given ≡ answer_of o q → ((nav : ℕ) → q ≡ reply.Made nav → Belongs t d (value.Window nav)) → Belongs t d (value_in given)
-replied t d o reply.Done given e made = let same : done_of o ≡ given = cc in subst (λ (a : AnswerOf). Belongs t d (value_in a)) same (done_belongs t d o)
-replied t d o (reply.Security n) given e made =
-    let same : answer.Outcome (outcome.Security (rule_of n)) ≡ given = cc in subst (λ (a : AnswerOf). Belongs t d (value_in a)) same tt
-replied t d o reply.Null given e made = let same : answer.Outcome (outcome.Value null) ≡ given = cc in subst (λ (a : AnswerOf). Belongs t d (value_in a)) same tt
-replied t d o (reply.Made nav) given e made =
-    let same : answer.Outcome (outcome.Value (value.Window nav)) ≡ given = cc in subst (λ (a : AnswerOf). Belongs t d (value_in a)) same (made nav refl)
-replied t d o (reply.Unloaded place) given e made = let same : answer.Unloaded ≡ given = cc in subst (λ (a : AnswerOf). Belongs t d (value_in a)) same tt
-replied t d o _ given e made = absurd cc
-
-pub reply_belongs : (rules : Rules) (log : List Entry) (r : ℕ) (q : Request) (d : ℕ) (o : OpName) (given : AnswerOf) → AreAdmitted log → length log < 2 ^ 30 → IsClosed (tree_of log) → asker_of q ≡ d
-    → Some given ≡ answer_of o (exchange rules log r q).outcome → Belongs (tree_of ((exchange rules log r q).entries ++ log)) d (value_in given)
-reply_belongs rules log r q d o given all short closed asker gives =
-    let t : Tree = tree_of ((exchange rules log r q).entries ++ log) in
-    replied t d o (exchange rules log r q).outcome given gives (λ nav is. subst (λ x. Belongs t x (value.Window nav)) asker (made_belongs rules log r q nav all short closed is))
 
 pub sound_asking : (rules : Rules) (log : List Entry) (k r : ℕ) (q : Request) (w v : Holds) (left : Left) (o : OpName) (given : AnswerOf) → AreAdmitted log → length log < 2 ^ 30 → IsClosed (tree_of log)
     → AreAdmitted ((exchange rules log r q).entries ++ log) → asker_of q ≡ left.doc → IsSound w → w.tree ≡ tree_of (prefix k log) → v.tree ≡ tree_of ((exchange rules log r q).entries ++ log)

@@ -21,7 +21,7 @@ use Rattle.single_agent.specs.Turns.{HasRoom, needs_room}
 use Rattle.agent_terms.specs.Limits.{most_acts}
 use Rattle.agent_laws.proofs.Logs.Asked.{IsAskedBy, asked_by}
 use Rattle.agent_terms.specs.Built.{is_built, is_made}
-use Rattle.script_steps.proofs.BuiltLaws.{made_by_built}
+use Rattle.session_player.proofs.BuiltLaws.{made_by_built}
 use Rattle.session_player.specs.declared.worker.Turn.{Turn}
 use Rattle.session_player.specs.declared.worker.Turn.TheVariants.{Acted, Idle, Full, ActsFull, BadReply}
 use Rattle.session_player.specs.Serves.{Ledger}

@@ -1,7 +1,5 @@
 ghost use Rattle.std.specs.Prelude.{◌≡◌, ◌++◌, ◌+◌, ◌-◌, ◌<◌, ◌≤◌, ◌^◌, [], ◌∷◌, List, ℕ, length, reverse, drop, get_or, slice_set, vec_len, vec_capacity, true, IsTrue, OnOk, OnErr, IfOk, None, Some};
-ghost use Rattle.std.specs.Option.{option_to_list};
 ghost use Rattle.tree_log.specs.Tree.{tree_of, is};
-ghost use Rattle.tree_log.specs.Facts.{groups_after, loads_after, with_load};
 ghost use Rattle.tree_log.specs.Admits.{admits, AreAdmitted};
 ghost use Rattle.tree_log.proofs.Admitted.{AreAdmitted-prop};
 ghost use Rattle.agent_terms.specs.Built.{is_made};
@@ -11,12 +9,12 @@ ghost use Rattle.session_player.specs.Quiet.{is_quiet, are_quiet};
 
 use crate::replica::Replica;
 use crate::requests::{Replied, asker_of, decided, start_entry};
-use crate::tasks::first_task;
 use agent_terms::{Request, Session};
 use origin_core::PageUrl;
 use std::alloc::{AllocError, Global};
-use tree_log::{Entry, Load, Log, What};
+use tree_log::{Entry, Log};
 use tree_view::View;
+use web_message::next_event;
 
 /// How many entries a log has at most.
 pub const MOST_ENTRIES: u32 = 20_000;
@@ -48,19 +46,15 @@ pub enum AskReply {
     Answered { reply: Replied, told: Told },
 }
 
-/// The coordinator. It keeps the log, a view of it, how much of it each renderer was told, and, of the tree, the number
-/// of groups and the loaded documents. So far its log has no messages and no windows that were asked to close.
+/// The coordinator. It keeps the log, a view of it, and how much of it each renderer was told. So far its log has no
+/// messages and no windows that were asked to close.
 #[derive(Drop)]
 pub struct Desk<V: Replica> {
     pub log: Log,
     pub view: V,
     pub told: Vec<u32>,
-    pub groups: u32,
-    pub loads: Vec<u32>,
     ghost same: { V.tree view ≡ tree_of log.entries },
     ghost admitted: { AreAdmitted log.entries } by { AreAdmitted-prop log.entries },
-    ghost counted: { groups ≡ (tree_of log.entries).groups },
-    ghost loaded: { loads.items ≡ (tree_of log.entries).loads },
     ghost quiet: { are_quiet log.entries ≡ true },
 }
 
@@ -73,50 +67,6 @@ fn copied(alloc: Global, entries: &[Entry], from: u32) -> Result<Vec<Entry>, All
         news.push(entries[place].clone()?)?;
     }
     Ok(news)
-}
-
-/// The number of groups after one more entry.
-fn groups_with(groups: u32, what: &What) -> u32
-    requires { groups < 2 ^ 32 - 1 }
-    ensures { result ≡ groups_after what.now groups }
-{
-    match what {
-        What::Open { group, .. } => { if *group == groups { groups + 1 } else { groups } }
-        _ => groups,
-    }
-}
-
-/// The document that an entry loads.
-fn loaded(what: &What) -> Option<u32>
-    ensures { (before : List ℕ) → loads_after what.now before ≡ before ++ option_to_list result }
-{
-    match what {
-        What::Open { load, .. } | What::Frame { load, .. } => doc_of(load),
-        What::Begin { load, .. } => Some(load.doc),
-        _ => None,
-    }
-}
-
-fn doc_of(load: &Option<Load>) -> Option<u32>
-    ensures { (before : List ℕ) → with_load load.now before ≡ before ++ option_to_list result }
-{
-    match load {
-        Some(load) => Some(load.doc),
-        None => None,
-    }
-}
-
-/// Adds the document that an entry loads. There is room for it.
-fn add_load(loads: &mut Vec<u32>, load: Option<u32>)
-    requires { vec_len loads.old < vec_capacity loads.old }
-    ensures { loads.new.items ≡ loads.old.items ++ option_to_list load }
-{
-    if let Some(doc) = load {
-        match loads.push(doc) {
-            Ok(()) => {}
-            Err(_) => unreachable!(),
-        }
-    }
 }
 
 impl<V: Replica> Desk<V> {
@@ -136,8 +86,6 @@ impl<V: Replica> Desk<V> {
             log: Log::new(alloc),
             view: V::empty(alloc),
             told,
-            groups: 0,
-            loads: Vec::new(alloc),
         })
     }
 
@@ -150,13 +98,8 @@ impl<V: Replica> Desk<V> {
         ensures told { self.new.told.items ≡ self.old.told.items }
         ensures count { vec_len self.new.told ≡ vec_len self.old.told }
     {
-        let groups = groups_with(self.groups, &entry.what);
-        let load = loaded(&entry.what);
         self.log.reserve(1)?;
-        self.loads.reserve(1)?;
         self.view.apply(&entry)?;
-        self.groups = groups;
-        add_load(&mut self.loads, load);
         match self.log.push(entry) {
             Ok(()) => Ok(()),
             Err(_) => unreachable!(),
@@ -189,7 +132,7 @@ impl<V: Replica> Desk<V> {
         ensures told { self.new.told.items ≡ self.old.told.items }
         ensures count { vec_len self.new.told ≡ vec_len self.old.told }
     {
-        let entry = start_entry(alloc, &self.view, &self.loads, session, self.groups, url)?;
+        let entry = start_entry(alloc, &self.view, session, url)?;
         self.append(entry)
     }
 
@@ -202,7 +145,7 @@ impl<V: Replica> Desk<V> {
         if self.log.len() > MOST_ENTRIES - 4 {
             return Ok(NextReply::Full);
         }
-        match first_task(&self.log, &self.view, renderer) {
+        match next_event(&self.log, &self.view, renderer) {
             None => Ok(NextReply::Nothing(self.tell(alloc, renderer)?)),
             Some(what) => {
                 let place = self.log.len();
@@ -259,7 +202,7 @@ impl<V: Replica> Desk<V> {
         if self.log.len() > MOST_ENTRIES - 4 {
             return Ok(AskReply::Full);
         }
-        let (what, reply) = decided(alloc, &self.view, &self.loads, session, request)?;
+        let (what, reply) = decided(alloc, &self.view, session, request)?;
         self.append(Entry {
             by: Some(renderer),
             actor: Some(asker),

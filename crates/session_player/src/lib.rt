@@ -7,12 +7,10 @@
 #![tactic(auto)]
 
 mod desk;
-mod homes;
 mod playing;
 mod replica;
 mod requests;
 mod script;
-mod tasks;
 mod worker;
 mod writes;
 

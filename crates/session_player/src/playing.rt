@@ -2,6 +2,7 @@ ghost use Rattle.std.specs.Prelude.{◌≡◌, ◌<◌, ◌≤◌, ◌^◌, ◌-
 ghost use Rattle.session_player.specs.declared.playing.Round.{Round as RoundValue};
 ghost use Rattle.single_agent.specs.Turns.{Turned, next_renderer};
 ghost use Rattle.agent_terms.specs.Built.{AreBuilt};
+ghost use Rattle.agent_terms.specs.Limits.{most_starts};
 ghost use Rattle.single_agent.specs.Session.{starts_of};
 ghost use Rattle.session_player.specs.Serves.{ledger};
 ghost use Rattle.session_player.specs.Underway.{AreNumbered, IsUnderway, TurnEnds, AtRound, RoundEnds, OrderEnds, IsPlay, AreFresh, seats_of};
@@ -138,7 +139,7 @@ pub struct Run<V: Replica> {
 /// The coordinator with its start windows.
 fn opened<V: Replica>(alloc: Global, session: &Session) -> Result<Desk<V>, AllocError>
     requires some { 0 < session.now.renderers }
-    requires starts { length session.now.start ≤ 64 }
+    requires starts { length session.now.start ≤ most_starts }
     ensures log { IfOk result (λ desk. desk.log.entries ≡ starts_of session.now) }
     ensures count { IfOk result (λ desk. vec_len desk.told ≡ session.now.renderers) }
     ensures told { IfOk result (λ desk. (r : ℕ) → get_or desk.told.items r 0 ≡ 0) }
@@ -165,7 +166,7 @@ fn hired<V: Replica>(alloc: Global, renderers: u16) -> Result<Vec<Worker<V>>, Al
 /// Plays a session to its end.
 pub fn play<V: Replica>(alloc: Global, session: &Session) -> Result<Run<V>, AllocError>
     requires some { 0 < session.now.renderers }
-    requires starts { length session.now.start ≤ 64 }
+    requires starts { length session.now.start ≤ most_starts }
     requires order { All (λ k. k < session.now.renderers) session.now.order }
     requires built { AreBuilt session.now }
     ensures { IfOk result (λ run. IsPlay session.now run.ending run.desk.log.entries (seats_of V.View run.workers.items)) }

@@ -1,4 +1,4 @@
-ghost use Rattle.std.specs.Prelude.{◌≡◌, ◌<◌, ◌+◌, ◌^◌, ℕ, All, IfOk, IfSome, IsTrue, Some};
+ghost use Rattle.std.specs.Prelude.{◌≡◌, ◌<◌, ◌+◌, ◌^◌, ℕ, IfOk, IfSome, IsTrue, Some};
 ghost use Rattle.origin_core.specs.Flags as flags_spec;
 ghost use Rattle.tree_log.specs.Tree.{nav_of, origin_of, children_of};
 ghost use Rattle.agent_terms.specs.Built.{is_made};
@@ -8,8 +8,8 @@ ghost use Rattle.coordinator_rules.specs.Navigation.{is_in};
 ghost use Rattle.single_agent.specs.Session as session_spec;
 ghost use Rattle.session_player.specs.Serves.{Decides};
 
-use crate::homes::home_for;
 use agent_terms::{Request, Session};
+use nav_rules::home_for;
 use origin_core::{Flags, Origin, PageUrl, frame_origin, loaded_origin, site_of};
 use plain_data::Text;
 use std::alloc::{AllocError, Global};
@@ -30,7 +30,6 @@ pub enum Replied {
 fn load_of<V: View>(
     alloc: Global,
     view: &V,
-    loads: &[u32],
     session: &Session,
     group: u32,
     doc: u32,
@@ -38,12 +37,17 @@ fn load_of<V: View>(
     url: PageUrl,
 ) -> Result<Load, AllocError>
     requires some { 0 < session.now.renderers }
-    requires loads { loads.now ≡ (V.tree view.now).loads }
-    requires there { All (λ d. d < (V.tree view.now).docs) loads.now }
     ensures { IfOk result (λ load. load ≡ spec.load_of (rules_of session.now) (V.tree view.now) group doc origin url) }
 {
     let site = site_of(alloc, &origin, session.suffixes.as_slice())?;
-    let home = home_for(alloc, view, loads, session, group, &site)?;
+    let home = home_for(
+        alloc,
+        view,
+        group,
+        &site,
+        session.suffixes.as_slice(),
+        session.renderers,
+    )?;
     Ok(Load {
         doc,
         home,
@@ -56,15 +60,12 @@ fn load_of<V: View>(
 fn frame_load<V: View>(
     alloc: Global,
     view: &V,
-    loads: &[u32],
     session: &Session,
     asker: u32,
     flags: Flags,
     url: Option<PageUrl>,
 ) -> Result<Option<Load>, AllocError>
     requires some { 0 < session.now.renderers }
-    requires loads { loads.now ≡ (V.tree view.now).loads }
-    requires there { All (λ d. d < (V.tree view.now).docs) loads.now }
     requires asker { asker < (V.tree view.now).docs }
     requires few { (V.tree view.now).docs < 2 ^ 31 }
     ensures { IfOk result (λ load. load ≡ spec.frame_load (rules_of session.now) (V.tree view.now) asker flags url) }
@@ -78,14 +79,13 @@ fn frame_load<V: View>(
     let doc = view.docs() + 1;
     let group = view.group(view.nav_of(asker));
     let origin = loaded_origin(alloc, flags.origin(), doc, view.origin_of(asker), &url)?;
-    Ok(Some(load_of(alloc, view, loads, session, group, doc, origin, url)?))
+    Ok(Some(load_of(alloc, view, session, group, doc, origin, url)?))
 }
 
 /// A new frame in a document.
 fn framed<V: View>(
     alloc: Global,
     view: &V,
-    loads: &[u32],
     session: &Session,
     asker: u32,
     name: Text,
@@ -93,13 +93,11 @@ fn framed<V: View>(
     url: Option<PageUrl>,
 ) -> Result<What, AllocError>
     requires some { 0 < session.now.renderers }
-    requires loads { loads.now ≡ (V.tree view.now).loads }
-    requires there { All (λ d. d < (V.tree view.now).docs) loads.now }
     requires asker { asker < (V.tree view.now).docs }
     requires few { (V.tree view.now).docs < 2 ^ 31 }
     ensures { IfOk result (λ what. what ≡ spec.frame_entry (rules_of session.now) (V.tree view.now) asker name flags url) }
 {
-    let load = frame_load(alloc, view, loads, session, asker, flags, url)?;
+    let load = frame_load(alloc, view, session, asker, flags, url)?;
     let origin = frame_origin(flags.origin(), view.docs(), view.origin_of(asker))?;
     Ok(What::Frame {
         nav: view.navs(),
@@ -136,13 +134,10 @@ fn is_child<V: View>(view: &V, doc: u32, nav: u32) -> bool
 pub fn decided<V: View>(
     alloc: Global,
     view: &V,
-    loads: &[u32],
     session: &Session,
     request: Request,
 ) -> Result<(What, Replied), AllocError>
     requires some { 0 < session.now.renderers }
-    requires loads { loads.now ≡ (V.tree view.now).loads }
-    requires there { All (λ d. d < (V.tree view.now).docs) loads.now }
     requires asker { spec.asker_of request < (V.tree view.now).docs }
     requires few { (V.tree view.now).docs < 2 ^ 31 }
     requires made { IsTrue (is_made request) }
@@ -158,7 +153,7 @@ pub fn decided<V: View>(
         } => {
             let flags = flags.union(view.flags(view.nav_of(asker)));
             let nav = view.navs();
-            let what = framed(alloc, view, loads, session, asker, name, flags, url)?;
+            let what = framed(alloc, view, session, asker, name, flags, url)?;
             Ok((what, Replied::Made { nav }))
         }
         Request::Drop { asker, nav } => {
@@ -191,34 +186,21 @@ pub fn asker_of(request: &Request) -> u32
     }
 }
 
-/// The next start window, which loads a URL: the entry that opens it, in a group with this number.
+/// The next start window, which loads a URL: the entry that opens it, in a new group.
 pub fn start_entry<V: View>(
     alloc: Global,
     view: &V,
-    loads: &[u32],
     session: &Session,
-    group: u32,
     url: &PageUrl,
 ) -> Result<Entry, AllocError>
     requires some { 0 < session.now.renderers }
-    requires loads { loads.now ≡ (V.tree view.now).loads }
-    requires there { All (λ d. d < (V.tree view.now).docs) loads.now }
     requires few { (V.tree view.now).docs < 2 ^ 31 }
-    requires group { group ≡ (V.tree view.now).groups }
     ensures { IfOk result (λ entry. entry ≡ session_spec.start_entry (rules_of session.now) (V.tree view.now) url.now) }
 {
     let doc = view.docs() + 1;
+    let group = view.groups();
     let origin = loaded_origin(alloc, false, doc, &Origin::Opaque(doc), url)?;
-    let load = load_of(
-        alloc,
-        view,
-        loads,
-        session,
-        group,
-        doc,
-        origin,
-        url.clone()?,
-    )?;
+    let load = load_of(alloc, view, session, group, doc, origin, url.clone()?)?;
     Ok(Entry {
         by: None,
         actor: None,

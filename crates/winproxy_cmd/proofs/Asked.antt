@@ -4,7 +4,7 @@ use Rattle.std.specs.Prelude.{Option}
 use Rattle.trace_text.specs.declared.status.Status.{Status}
 use Rattle.trace_text.specs.declared.status.Status.TheVariants as status
 use Rattle.trace_text.specs.StatusText.{status_words}
-use Rattle.trace_text.specs.LogText.{◌◊◌}
+use Rattle.origin_core.specs.Flags.{◌◊◌}
 use Rattle.winproxy_cmd.specs.declared.forms.Form.{Form}
 use Rattle.winproxy_cmd.specs.declared.forms.Form.TheVariants as form
 use Rattle.winproxy_cmd.specs.Command.{IsPlayWord, form_named, form_of, CommandAnswers, usage_words}

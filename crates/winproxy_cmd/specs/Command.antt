@@ -2,13 +2,14 @@
 use Rattle.std.specs.Prelude.{◌≡◌, ◌⊎◌, ℕ, zero, suc, ◌<◌, ◌≤◌, List, [], ◌∷◌, length, Option, Some, None, IsSome, bytes_eq, if◌then◌else◌, codes, string_bytes, IfSome, Ok, Err}
 use Rattle.std.specs.Io.KnownBytes.{Appends}
 use Rattle.ports.specs.Causes.{Rose}
-use Rattle.trace_text.specs.LogText.{◌◊◌, log_words}
+use Rattle.origin_core.specs.Flags.{◌◊◌}
+use Rattle.trace_text.specs.LogText.{log_words}
 use Rattle.agent_terms.specs.declared.session.Session.{Session}
 use Rattle.agent_terms.specs.declared.act.Ending.{Ending}
 use Rattle.agent_terms.specs.declared.act.Ending.TheVariants as ending
 use Rattle.single_agent.specs.LegalLog.{IsLegalLog}
 use Rattle.single_agent.specs.LegalRecord.{IsLegalRecord}
-use Rattle.single_agent.specs.Turns.{Turned, log_of, record_of, ArePlayed, EndsBy, StopsAtLog}
+use Rattle.single_agent.specs.Turns.{Turned, log_of, record_of, ArePlayed, EndsBy}
 use Rattle.trace_text.specs.RecordText.{record_words}
 use Rattle.session_reading.specs.declared.error.SessionError.{SessionError}
 use Rattle.session_reading.specs.PathText.{refusal_words}
@@ -141,15 +142,6 @@ IsLegalRun input st text = (session : Session) × IfSome input (λ bytes. IsSess
 -- What the sink took is the text of a run of the session that the input is.
 abbrev pub PrintsLegalRun : Option (List ℕ) → Status → Option (List ℕ) → Option (List ℕ) → Type 0
 PrintsLegalRun input st before after = (text : List ℕ) × IsLegalRun input st text × Appends before after text
-
--- turns of the session that the input is, of which this holds
-abbrev pub PlaysTo : Option (List ℕ) → (Session → List Turned → Type 0) → Type 0
-PlaysTo input holds =
-    (session : Session) × (turns : List Turned) × IfSome input (λ bytes. IsSessionText bytes session) × ArePlayed session turns × holds session turns
-
--- the log of these turns has so many entries, and no room for what is next
-abbrev pub StopsAtLogOf : ℕ → Session → List Turned → Type 0
-StopsAtLogOf n s turns = (length (log_of s turns) ≡ n) × (r : ℕ) × StopsAtLog s turns r
 
 -- SUMMARIES
 

@@ -3,8 +3,7 @@ ghost use Rattle.std.specs.Io.KnownBytes.{IsAtEnd, Appends, Keeps};
 ghost use Rattle.ports.specs.Causes.{Rose, TakesFront};
 ghost use Rattle.trace_text.specs.declared.status.Status.{Status as StatusValue};
 ghost use Rattle.agent_terms.specs.declared.session.Session.{Session as SessionValue};
-ghost use Rattle.single_agent.specs.Turns.{StopsAtActs};
-ghost use Rattle.winproxy_cmd.specs.Command.{form_named, form_of, IsPlayWord, IsAskedBy, IsInput, HasSession, IsRun, IsRunOrMemory, IsDoneOrMemory, IsRefusalOrMemory, IsRefused, IsSessionText, PrintsLegalRun, PrintsSummary, PlaysTo, StopsAtLogOf, PlayAnswers, CheckAnswers, CommandAnswers, usage_words};
+ghost use Rattle.winproxy_cmd.specs.Command.{form_named, form_of, IsPlayWord, IsAskedBy, IsInput, HasSession, IsRun, IsRunOrMemory, IsDoneOrMemory, IsRefusalOrMemory, IsRefused, IsSessionText, PrintsLegalRun, PrintsSummary, PlayAnswers, CheckAnswers, CommandAnswers, usage_words};
 
 use crate::output::{checked, refused, run_text, unread};
 use ports::{ReadAllError, Sink, Source, read_all, write_all_of};
@@ -96,11 +95,8 @@ fn print<K: Sink>(sink: &mut K, status: Status, text: &str) -> Status
 /// where the sink's rose. `Memory` comes where there was none; then nothing is printed.
 pub fn play<S: Source, K: Sink>(alloc: Global, source: &mut S, sink: &mut K) -> Status
     // The sink took the text of a legal log of the session that the source had, of the legal records against that log,
-    // and of the status.
+    // and of the status, which says how the turns end: a limit stops them exactly at a turn that meets it.
     ensures headline { IsRun result → PrintsLegalRun (S.left source.old) result (K.taken sink.old) (K.taken sink.new) }
-    // A limit stops the play exactly at a turn that meets it.
-    ensures log_full { (n : ℕ) → result ≡ Status.LogFull n → PlaysTo (S.left source.old) (StopsAtLogOf n) }
-    ensures acts_full { (r : ℕ) → result ≡ Status.ActsFull r → PlaysTo (S.left source.old) (λ s turns. StopsAtActs s turns r) }
     ensures whole { IsRun result → IsAtEnd (S.left source.new) }
     ensures usage { result ≡ Status.Usage → ⊥ }
     ensures session { result ≡ Status.Session → IfSome (S.left source.old) IsRefused }
@@ -204,13 +200,10 @@ pub fn command<S: Source, K: Sink>(
     sink: &mut K,
 ) -> Status
     // The sink took the text of a legal log of the session that the source had, of the legal records against that log,
-    // and of the status.
+    // and of the status, which says how the turns end: a limit stops them exactly at a turn that meets it.
     ensures headline { IsPlayWord (map string_bytes words.now) → IsRun result → PrintsLegalRun (S.left source.old) result (K.taken sink.old) (K.taken sink.new) }
     // The sink took the line on the session that the source had, and the status.
     ensures summary { form_of (map string_bytes words.now) ≡ Some Form.Check → result ≡ Status.Done → PrintsSummary (S.left source.old) (K.taken sink.old) (K.taken sink.new) }
-    // A limit stops a play exactly at a turn that meets it.
-    ensures log_full { (n : ℕ) → result ≡ Status.LogFull n → PlaysTo (S.left source.old) (StopsAtLogOf n) }
-    ensures acts_full { (r : ℕ) → result ≡ Status.ActsFull r → PlaysTo (S.left source.old) (λ s turns. StopsAtActs s turns r) }
     ensures whole { IsRun result → IsAtEnd (S.left source.new) }
     ensures run { IsAskedBy (form_of (map string_bytes words.now)) result }
     ensures usage { result ≡ Status.Usage → form_of (map string_bytes words.now) ≡ None }

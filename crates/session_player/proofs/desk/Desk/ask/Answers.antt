@@ -1,10 +1,10 @@
-use Rattle.std.proofs.Common.{◌≡◌, ◌∙◌, ◌∷◌, ◌++◌, ℕ, ◌<◌, ap, sym, subst, arith, List, true, false, All}
+use Rattle.std.proofs.Common.{◌≡◌, ◌∙◌, ◌∷◌, ◌++◌, ℕ, ◌<◌, ap, sym, subst, arith, List, true, false}
 use Rattle.tree_log.specs.declared.entry.Entry.{Entry}
 use Rattle.tree_log.specs.Tree.{Tree, tree_of, is, is_active}
 use Rattle.tree_log.specs.Admits.{admits}
 use Rattle.coordinator_rules.specs.Decision.{Decision, rules_of, asker_of, by, end_of, home_if_active}
 use Rattle.session_player.specs.Serves.{Decides, Tells, ledger}
-use Rattle.session_player.proofs.Asking.{asked_ended, asked_decided, decided_admitted, loads_there, few_docs}
+use Rattle.session_player.proofs.Asking.{asked_ended, asked_decided, decided_admitted, few_docs}
 use Rattle.session_player.proofs.Quiet.{decided_quiet}
 use Rattle.session_player.proofs.desk.Desk.ask.Goals as goal
 
@@ -22,11 +22,6 @@ returns-then-not-is_active-clause-serves g c =
       replies = (end_of log (asker_of c.args.request), ap (λ (x : Decision). x.outcome) d);
       tells = c.in_ok-told.ensures.tells;
     }
-
-pub decided-requires-clause-there : goal.decided-requires-clause-there
-decided-requires-clause-there g c =
-    subst (λ (xs : List ℕ). All (λ d. d < (g.V.View.tree c.args.self.now.view).docs) xs) (sym (c.deref.ensures.value ∙ c.args.self.now.loaded))
-    (subst (λ (t : Tree). All (λ d. d < t.docs) (tree_of c.args.self.now.log.entries).loads) (sym c.args.self.now.same) (loads_there c.args.self.now.log.entries c.args.self.now.admitted))
 
 pub decided-requires-clause-few : goal.decided-requires-clause-few
 decided-requires-clause-few g c = let few = few_docs c.args.self.now.log.entries (omega (arith, c.if-len.false, c.len.ensures)) in let same = ap (λ (t : Tree). t.docs) c.args.self.now.same in omega arith

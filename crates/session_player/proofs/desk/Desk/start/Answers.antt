@@ -1,4 +1,4 @@
-use Rattle.std.proofs.Common.{◌≡◌, ◌∙◌, ℕ, ◌<◌, ap, sym, subst, arith, List, true, All}
+use Rattle.std.proofs.Common.{◌≡◌, ◌∙◌, ap, sym, subst, arith, true}
 use Rattle.tree_log.specs.declared.entry.Entry.{Entry}
 use Rattle.tree_log.specs.Tree.{Tree, tree_of}
 use Rattle.tree_log.specs.Admits.{admits}
@@ -6,13 +6,8 @@ use Rattle.coordinator_rules.specs.Decision.{rules_of}
 use Rattle.single_agent.specs.Session.{start_entry}
 use Rattle.single_agent.proofs.Admitted.{start_admitted}
 use Rattle.session_player.specs.Quiet.{is_quiet}
-use Rattle.session_player.proofs.Asking.{loads_there, few_docs}
+use Rattle.session_player.proofs.Asking.{few_docs}
 use Rattle.session_player.proofs.desk.Desk.start.Goals as goal
-
-pub start_entry-requires-clause-there : goal.start_entry-requires-clause-there
-start_entry-requires-clause-there g c =
-    subst (λ (xs : List ℕ). All (λ d. d < (g.V.View.tree c.args.self.now.view).docs) xs) (sym (c.deref.ensures.value ∙ c.args.self.now.loaded))
-    (subst (λ (t : Tree). All (λ d. d < t.docs) (tree_of c.args.self.now.log.entries).loads) (sym c.args.self.now.same) (loads_there c.args.self.now.log.entries c.args.self.now.admitted))
 
 pub start_entry-requires-clause-few : goal.start_entry-requires-clause-few
 start_entry-requires-clause-few g c = let few = few_docs c.args.self.now.log.entries c.requires.few in let same = ap (λ (t : Tree). t.docs) c.args.self.now.same in omega arith

@@ -1,7 +1,7 @@
 use Rattle.std.proofs.Common.{◌∙◌, ap}
 use Rattle.std.specs.Prelude.{option_and_then}
 use Rattle.single_agent.specs.Running.{left_at, left_on}
-use Rattle.script_steps.proofs.BuiltLaws.{built_for}
+use Rattle.session_player.proofs.BuiltLaws.{built_for}
 use Rattle.session_player.proofs.worker.Worker.left.Goals as goal
 
 pub returns-in-Some-clause-built : goal.returns-in-Some-clause-built

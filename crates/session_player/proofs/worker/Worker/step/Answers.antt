@@ -6,7 +6,7 @@ use Rattle.single_agent.specs.NextMove.{op_of}
 use Rattle.object_access.specs.StepAnswer.{step_stores}
 use Rattle.script_steps.specs.Kept.{kept}
 use Rattle.script_steps.specs.Stored.{stored}
-use Rattle.script_steps.proofs.BuiltLaws.{unchanged_by_asking}
+use Rattle.session_player.proofs.BuiltLaws.{unchanged_by_asking}
 use Rattle.session_player.specs.Serves.{Ledger, ledger}
 use Rattle.session_player.specs.Steps.{Holds, holds, IsTied, sight_in, stores_then, AskEnds}
 use Rattle.session_player.proofs.Results.{if_ok}
