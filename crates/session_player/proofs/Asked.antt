@@ -32,7 +32,8 @@ use Rattle.single_agent.specs.Running.{Left, one_more}
 use Rattle.single_agent.specs.Sights.{registers_after}
 use Rattle.single_agent.specs.NextAct.{rule_of, done_of, answer_of}
 use Rattle.single_agent.specs.Turns.{IsFull, needs_room}
-use Rattle.single_agent.proofs.Mine.{IsMine, mine_now, yours_of, IsNoTask, exchange_asked}
+use Rattle.single_agent.specs.Mine.{IsMine}
+use Rattle.single_agent.proofs.Mine.{mine_now, yours_of, IsNoTask, exchange_asked}
 use Rattle.tree_log.specs.Urls.{url_of}
 use Rattle.session_player.specs.declared.desk.Told.{Told}
 use Rattle.session_player.specs.declared.requests.Replied.{Replied}

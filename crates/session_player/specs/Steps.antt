@@ -30,7 +30,7 @@ use Rattle.single_agent.specs.NextMove.{move_of}
 use Rattle.single_agent.specs.NextAct.{kind_of, answer_of}
 use Rattle.single_agent.specs.Turns.{HasRoom, IsFull, needs_room}
 use Rattle.agent_terms.specs.Limits.{most_acts, most_entries}
-use Rattle.single_agent.proofs.Mine.{IsMine}
+use Rattle.single_agent.specs.Mine.{IsMine}
 use Rattle.agent_laws.specs.Belonging.{RegistersBelong, StoresBelong, IsClosed}
 use Rattle.session_player.specs.Quiet.{is_commit}
 use Rattle.session_player.specs.Serves.{Ledger}

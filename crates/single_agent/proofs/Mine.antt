@@ -18,12 +18,7 @@ use Rattle.agent_terms.specs.declared.request.Request.{Request}
 use Rattle.agent_terms.specs.declared.request.Request.TheVariants as ask
 use Rattle.coordinator_rules.specs.NextTask.{load_waits, load_task, is_for, delivery, task_of, first_task, next_task, is_over, task_entry}
 use Rattle.coordinator_rules.specs.Decision.{Rules, asker_of, home_if_active, asked_decision, exchange}
-
--- the document is there, has been active, and is homed at renderer r
-pub record IsMine (r : ℕ) (t : Tree) (d : ℕ) : Type 0 where
-  pub there : d < t.docs
-  pub been : (t.doc d).been_active ≡ true
-  pub home : home_of t d ≡ r
+use Rattle.single_agent.specs.Mine.{IsMine}
 
 or_right : (a b : Bool) → b ≡ true → (a || b) ≡ true
 or_right true b h = refl

@@ -1,4 +1,5 @@
 pub mod Names
+pub mod Mine
 pub mod Session
 pub mod Lengths
 pub mod Running

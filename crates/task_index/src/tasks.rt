@@ -11,7 +11,7 @@ ghost use Rattle.task_index.specs.Fed.{same_end, task_at, HasTasks, IsFirstOf};
 use std::collections::{BTreeSet, HashSet};
 use tree_log::{Log, Target, What};
 use tree_view::View;
-use web_message::{closing_task, delivery, load_task, waiting_task};
+use web_message::{closing_task, delivery, load_task};
 
 /// A message that did not fire or lapse yet, if it waits at a renderer.
 fn message_task<V: View>(
@@ -44,9 +44,17 @@ fn task_of<V: View>(
     ensures { result ≡ spec.task_of (V.tree view.now) (λ to post. set_spec.contains same_end over.now (to, post)) renderer place what.now }
 {
     match what {
-        What::Open { nav, load, .. } => load_task(view, renderer, place, *nav, load),
-        What::Frame { nav, load, .. } => load_task(view, renderer, place, *nav, load),
-        What::Begin { nav, load } => waiting_task(view, renderer, place, *nav, load),
+        What::Open {
+            nav,
+            load: Some(load),
+            ..
+        } => load_task(view, renderer, place, *nav, load),
+        What::Frame {
+            nav,
+            load: Some(load),
+            ..
+        } => load_task(view, renderer, place, *nav, load),
+        What::Begin { nav, load } => load_task(view, renderer, place, *nav, load),
         What::Post { to, target, .. } => message_task(over, view, renderer, place, *to, target),
         What::Closing { nav } => closing_task(view, renderer, *nav),
         _ => None,

@@ -10,4 +10,4 @@ mod tasks;
 pub use cloning::{CloneError, clone_of};
 pub use target::{TargetError, target_of};
 pub use task::{Task, next_task};
-pub use tasks::{closing_task, delivery, load_task, next_event, waiting_task};
+pub use tasks::{closing_task, delivery, load_task, next_event};

@@ -1,6 +1,6 @@
 ghost use Rattle.std.specs.Prelude.{◌≡◌, ◌<◌, Some};
 ghost use Rattle.tree_log.specs.Log as spec;
-ghost use Rattle.tree_log.proofs.Admitted.{TaskStands, StandsIfAny, StandsFor, AllStand};
+ghost use Rattle.tree_log.proofs.Admitted.{TaskStands, AllStand};
 ghost use Rattle.coordinator_rules.specs.NextTask.{load_waits, load_task, is_for, delivery, ends, is_over, message_task, closing_task, task_of, first_task, next_task};
 ghost use Rattle.tree_log.specs.Admits.{AreAdmitted};
 ghost use Rattle.tree_log.specs.Tree.{tree_of};
@@ -11,7 +11,8 @@ use tree_view::View;
 
 /// Whether a load waits at a renderer.
 fn load_waits<V: View>(view: &V, renderer: u16, nav: u32, load: &Load) -> bool
-    requires { StandsFor (V.tree view.now) nav load.now }
+    requires nav_there { nav < (V.tree view.now).navs }
+    requires doc_there { load.now.doc < (V.tree view.now).docs }
     ensures { result ≡ load_waits (V.tree view.now) renderer nav load.now }
 {
     load.home == renderer
@@ -26,32 +27,16 @@ fn is_number(found: Option<u32>, number: u32) -> bool
     found == Some(number)
 }
 
-/// The commit of a load that an entry at a place begins, if it waits at a renderer.
-pub fn load_task<V: View>(
-    view: &V,
-    renderer: u16,
-    place: u32,
-    nav: u32,
-    load: &Option<Load>,
-) -> Option<What>
-    requires { StandsIfAny (V.tree view.now) nav load.now }
-    ensures { result ≡ load_task (V.tree view.now) renderer place nav load.now }
-{
-    match load {
-        Some(load) => waiting_task(view, renderer, place, nav, load),
-        None => None,
-    }
-}
-
 /// The commit of a load that began at a place, if it waits at a renderer.
-pub fn waiting_task<V: View>(
+pub fn load_task<V: View>(
     view: &V,
     renderer: u16,
     place: u32,
     nav: u32,
     load: &Load,
 ) -> Option<What>
-    requires { StandsFor (V.tree view.now) nav load.now }
+    requires nav_there { nav < (V.tree view.now).navs }
+    requires doc_there { load.now.doc < (V.tree view.now).docs }
     ensures { result ≡ load_task (V.tree view.now) renderer place nav (Some load.now) }
 {
     if load_waits(view, renderer, nav, load) {
@@ -164,9 +149,17 @@ fn task_of<V: View>(log: &Log, view: &V, renderer: u16, place: u32, what: &What)
     ensures { result ≡ task_of (V.tree view.now) (is_over log.now.entries) renderer place what.now }
 {
     match what {
-        What::Open { nav, load, .. } => load_task(view, renderer, place, *nav, load),
-        What::Frame { nav, load, .. } => load_task(view, renderer, place, *nav, load),
-        What::Begin { nav, load } => waiting_task(view, renderer, place, *nav, load),
+        What::Open {
+            nav,
+            load: Some(load),
+            ..
+        } => load_task(view, renderer, place, *nav, load),
+        What::Frame {
+            nav,
+            load: Some(load),
+            ..
+        } => load_task(view, renderer, place, *nav, load),
+        What::Begin { nav, load } => load_task(view, renderer, place, *nav, load),
         What::Post { to, target, .. } => message_task(log, view, renderer, place, *to, target),
         What::Closing { nav } => closing_task(view, renderer, *nav),
         _ => None,
