@@ -29,8 +29,11 @@ use Rattle.url.proofs.SetLemmas.{All_kept_differs}
 use Rattle.url.proofs.HostRoundTrip.{All-decimal}
 use Rattle.url.proofs.ValidLemmas.{special_has_authority}
 use Rattle.url.proofs.SetterLemmas.{own_host}
-use Rattle.origin_core.specs.Host.{is_address, host_kind, IsHost}
-use Rattle.origin_core.proofs.HostLaw.{http_kind, host_of_root}
+use Rattle.origin_core.specs.Host.{is_address, IsHost}
+use Rattle.origin_core.specs.Origin.{page_tuple}
+use Rattle.origin_core.specs.Tuple.{TupleParts}
+use Rattle.origin_core.proofs.HostLaw.{http_kind}
+use Rattle.origin_core.proofs.PageHost.{IsWebHost, HasWebHost, page_host}
 use Rattle.origin_core.specs.Site.{dot, is_in_label, last_label_len, has_suffix, longer, listed_len, public_suffix_len, is_unregistered, label_start, registrable_domain, site_host, is_value_below, fits, IsDomainOf, own, relaxed}
 use Rattle.origin_core.proofs.SiteLemmas.{last_label_len-le}
 
@@ -265,7 +268,7 @@ last_byte front b =
     let last : length (front ++ b ∷ []) - 1 ≡ length front = omega (arith, length-append front (b ∷ [])) in
     ap (λ k. get_or (front ++ b ∷ []) k 0) last ∙ get_or-append_seam front b [] 0
 
-no_address_below : (domain address : Host (List ℕ)) → IsHostOf SpecialNotFile domain → IsHostOf SpecialNotFile address → is_address domain ≡ false → is_address address ≡ true → (front : List ℕ) → host_text domain ≡ front ++ host_text address → ⊥
+no_address_below : (domain address : Host (List ℕ)) → IsWebHost domain → IsWebHost address → is_address domain ≡ false → is_address address ≡ true → (front : List ℕ) → host_text domain ≡ front ++ host_text address → ⊥
 no_address_below (Ipv4 a) address valid other kind is front joined = absurd cc
 no_address_below (Ipv6 a) address valid other kind is front joined = absurd cc
 no_address_below (Domain d) (Domain e) valid other kind is front joined = absurd cc
@@ -273,16 +276,33 @@ no_address_below (Domain d) (Ipv4 a) valid other kind is front joined =
     let octet : ℕ → ℕ = λ k. get_or (ipv4_octets a) k 0 in
     let number = number_ends (front ++ decimal (octet 0) ++ codes "." ++ decimal (octet 1) ++ codes "." ++ decimal (octet 2)) (octet 3) (other.1 3) in
     let ends = ap ends_in_a_number (joined ∙ dotted front (octet 0) (octet 1) (octet 2) (octet 3)) ∙ number in
-    let named = valid.0.named in
-    let no : false ≡ true = sym named ∙ ends in
+    let no : false ≡ true = sym valid.0 ∙ ends in
     absurd cc
 no_address_below (Domain d) (Ipv6 a) valid other kind is front joined =
     let inner = front ++ codes "[" ++ hex_groups_text (ipv6_segments a) in
     let whole : d ≡ inner ++ 93 ∷ [] = joined ∙ simp append_assoc in
-    let none = All_kept_differs FORBIDDEN_DOMAIN 93 refl d valid.0.allowed in
+    let none = All_kept_differs FORBIDDEN_DOMAIN 93 refl d valid.1 in
     let len = ap length whole ∙ length-append inner (93 ∷ []) in
     let last = ap (λ xs. get_or xs (length xs - 1) 0) whole ∙ last_byte inner 93 in
     absurd (none (length d - 1) 0 (omega (arith, len)) last)
+
+no_mixed : (address domain : List ℕ) → HasWebHost address true → HasWebHost domain false → (domain ≡ address) ⊎ IsBelow domain address → ⊥
+no_mixed address domain is other (inl same) =
+    no_address_below other.0 is.0 other.1 is.1 other.3 is.3 [] (other.2 ∙ same ∙ sym is.2)
+no_mixed address domain is other (inr part) =
+    no_address_below other.0 is.0 other.1 is.1 other.3 is.3 part.front (other.2 ∙ part.joined ∙ ap (λ t. part.front ++ t) (sym is.2))
+
+pub one_site_of : (suffixes : List (List ℕ)) (domain a b : List ℕ) (a_ip b_ip : Bool) → HasWebHost a a_ip → HasWebHost b b_ip → IsDomainOf a a_ip suffixes domain → IsDomainOf b b_ip suffixes domain → site_host a a_ip suffixes ≡ site_host b b_ip suffixes
+one_site_of suffixes domain a b true true is other of_a of_b = sym (domain_site a true suffixes domain of_a) ∙ domain_site b true suffixes domain of_b
+one_site_of suffixes domain a b false false is other of_a of_b = sym (domain_site a false suffixes domain of_a) ∙ domain_site b false suffixes domain of_b
+one_site_of suffixes domain a b true false is other of_a of_b =
+    let P : List ℕ → Type 0 = λ x. (b ≡ x) ⊎ IsBelow b x in
+    absurd (no_mixed a b is other (subst P (sym (address_domain a suffixes domain of_a)) (domain_below b false suffixes domain of_b)))
+one_site_of suffixes domain a b false true is other of_a of_b =
+    let P : List ℕ → Type 0 = λ x. (a ≡ x) ⊎ IsBelow a x in
+    absurd (no_mixed b a other is (subst P (sym (address_domain b suffixes domain of_b)) (domain_below a false suffixes domain of_a)))
+
+-- ---- hosts of URLs, and of pages
 
 -- the host of a URL, and that a web URL can have it
 web_host : (text : List ℕ) (ip : Bool) (h : IsHost text ip) → IsHostOf SpecialNotFile (host_or_empty h.0)
@@ -291,19 +311,18 @@ web_host text ip h =
     let kind = http_kind url.scheme h.2 in
     subst (λ k. IsHostOf k (host_or_empty url)) kind (own_host url h.1.head (special_has_authority url h.1.head (ap is_special kind)))
 
-no_mixed : (address domain : List ℕ) → IsHost address true → IsHost domain false → (domain ≡ address) ⊎ IsBelow domain address → ⊥
-no_mixed address domain is other (inl same) =
-    let no : Some false ≡ Some true = sym (host_of_root domain false other) ∙ ap host_kind same ∙ host_of_root address true is in
-    absurd cc
-no_mixed address domain is other (inr part) =
-    no_address_below (host_or_empty other.0) (host_or_empty is.0) (web_host domain false other) (web_host address true is) other.4 is.4 part.front (other.3 ∙ part.joined ∙ ap (λ t. part.front ++ t) (sym is.3))
+from_valid : (host : Host (List ℕ)) → IsHostOf SpecialNotFile host → IsWebHost host
+from_valid (Domain domain) valid = (valid.0.named, valid.0.allowed)
+from_valid (Ipv4 address) valid = valid
+from_valid (Ipv6 address) valid = tt
+
+from_host : (text : List ℕ) (ip : Bool) → IsHost text ip → HasWebHost text ip
+from_host text ip h = (host_or_empty h.0, from_valid (host_or_empty h.0) (web_host text ip h), h.3, h.4)
 
 pub one_site : (suffixes : List (List ℕ)) (domain a b : List ℕ) (a_ip b_ip : Bool) → IsHost a a_ip → IsHost b b_ip → IsDomainOf a a_ip suffixes domain → IsDomainOf b b_ip suffixes domain → site_host a a_ip suffixes ≡ site_host b b_ip suffixes
-one_site suffixes domain a b true true is other of_a of_b = sym (domain_site a true suffixes domain of_a) ∙ domain_site b true suffixes domain of_b
-one_site suffixes domain a b false false is other of_a of_b = sym (domain_site a false suffixes domain of_a) ∙ domain_site b false suffixes domain of_b
-one_site suffixes domain a b true false is other of_a of_b =
-    let P : List ℕ → Type 0 = λ x. (b ≡ x) ⊎ IsBelow b x in
-    absurd (no_mixed a b is other (subst P (sym (address_domain a suffixes domain of_a)) (domain_below b false suffixes domain of_b)))
-one_site suffixes domain a b false true is other of_a of_b =
-    let P : List ℕ → Type 0 = λ x. (a ≡ x) ⊎ IsBelow a x in
-    absurd (no_mixed b a other is (subst P (sym (address_domain b suffixes domain of_b)) (domain_below a false suffixes domain of_a)))
+one_site suffixes domain a b a_ip b_ip is other = one_site_of suffixes domain a b a_ip b_ip (from_host a a_ip is) (from_host b b_ip other)
+
+-- documents of two pages' URLs
+pub pages_site : (suffixes : List (List ℕ)) (domain one other : List ℕ) (a b : TupleParts) → page_tuple one ≡ Some a → page_tuple other ≡ Some b → IsDomainOf a.host a.ip suffixes domain → IsDomainOf b.host b.ip suffixes domain → site_host a.host a.ip suffixes ≡ site_host b.host b.ip suffixes
+pages_site suffixes domain one other a b of_one of_other =
+    one_site_of suffixes domain a.host b.host a.ip b.ip (page_host one a of_one) (page_host other b of_other)

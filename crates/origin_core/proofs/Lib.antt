@@ -5,8 +5,10 @@ pub mod HostLaw
 pub mod OriginLaw
 pub mod TupleLemmas
 pub mod SameLaw
+pub mod SameDomainLaw
 pub mod PortLaw
 pub mod FlagLaws
 pub mod ReadBack
 pub mod DomainLaw
 pub mod SuffixLaw
+pub mod PageHost

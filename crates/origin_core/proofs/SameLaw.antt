@@ -12,13 +12,13 @@ use Rattle.origin_core.specs.declared.origin.Origin.TheVariants.{Tuple, Opaque}
 use Rattle.origin_core.specs.Tuple.{TupleParts}
 use Rattle.origin_core.specs.Origin.{is_same_scheme, is_same_truth, is_same_tuple, is_same_origin}
 
-same_scheme : (a b : Scheme) → is_same_scheme a b ≡ true → a ≡ b
+pub same_scheme : (a b : Scheme) → is_same_scheme a b ≡ true → a ≡ b
 same_scheme Http Http same = refl
 same_scheme Https Https same = refl
 same_scheme Http Https same = cc
 same_scheme Https Http same = cc
 
-own_scheme : (a : Scheme) → is_same_scheme a a ≡ true
+pub own_scheme : (a : Scheme) → is_same_scheme a a ≡ true
 own_scheme Http = refl
 own_scheme Https = refl
 
@@ -41,7 +41,7 @@ own_port : (a : Option ℕ) → option_eq nat_eq a a ≡ true
 own_port None = refl
 own_port (Some a) = eq-eqb a a refl
 
-same_tuple : (a b : TupleParts) → is_same_tuple a b ≡ true → a ≡ b
+pub same_tuple : (a b : TupleParts) → is_same_tuple a b ≡ true → a ≡ b
 same_tuple a b same =
     let last = and_parts _ _ same in
     let kinds = and_parts _ _ last.0 in
@@ -52,7 +52,7 @@ same_tuple a b same =
     let port = same_port a.port b.port last.1 in
     λ i. record { scheme = scheme i; host = host i; ip = ip i; port = port i }
 
-own_origin : (a : Origin) → is_same_origin a a ≡ true
+pub own_origin : (a : Origin) → is_same_origin a a ≡ true
 own_origin (Tuple a) = rw (own_scheme a.scheme, (bytes_eq-Decides a.host a.host).1 refl, own_truth a.ip, own_port a.port) refl
 own_origin (Opaque n) = eq-eqb n n refl
 
@@ -70,7 +70,7 @@ same_iff a b r value = (λ yes. same_is a b (sym value ∙ yes), λ equal. value
 
 -- ---- it is an equivalence
 
-truths_agree : (x y : Bool) → (x ≡ true → y ≡ true) → (y ≡ true → x ≡ true) → x ≡ y
+pub truths_agree : (x y : Bool) → (x ≡ true → y ≡ true) → (y ≡ true → x ≡ true) → x ≡ y
 truths_agree true y to from = sym (to refl)
 truths_agree false true to from = from refl
 truths_agree false false to from = refl

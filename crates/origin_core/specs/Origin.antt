@@ -42,9 +42,21 @@ is_same_origin (Opaque m) (Opaque n) = nat_eq m n
 is_same_origin (Tuple a) (Opaque n) = false
 is_same_origin (Opaque m) (Tuple b) = false
 
--- "same origin-domain": every domain is null, so this is "same origin"
-abbrev pub is_same_origin_domain : Origin → Origin → Bool
-is_same_origin_domain a b = is_same_origin a b
+abbrev pub is_same_opaque : Origin → Origin → Bool
+is_same_opaque (Opaque m) (Opaque n) = nat_eq m n
+is_same_opaque _ _ = false
+
+abbrev pub has_same_domain : Origin → List ℕ → Origin → List ℕ → Bool
+has_same_domain (Tuple a) c (Tuple b) d = is_same_scheme a.scheme b.scheme && bytes_eq c d
+has_same_domain a c b d = is_same_opaque a b
+
+-- "same origin-domain", of two origins, each with the domain that its document has set: the same opaque origin; or tuple
+-- origins with identical schemes and identical domains; or the same origin, where neither has a domain
+abbrev pub is_same_origin_domain : Origin → Option (List ℕ) → Origin → Option (List ℕ) → Bool
+is_same_origin_domain a None b None = is_same_origin a b
+is_same_origin_domain a (Some c) b (Some d) = has_same_domain a c b d
+is_same_origin_domain a (Some c) b None = is_same_opaque a b
+is_same_origin_domain a None b (Some d) = is_same_opaque a b
 
 -- the origin is opaque, or a tuple in range
 abbrev pub IsOrigin : Origin → Type 0

@@ -1,10 +1,10 @@
 //! Laws of the definitions: each is the contract of an empty function.
 
-ghost use Rattle.std.specs.Prelude.{◌≡◌, ◌↔◌, ◌||◌, ℕ, Bool, true, false, List, Some, Ok, IfSome};
+ghost use Rattle.std.specs.Prelude.{◌≡◌, ◌↔◌, ◌||◌, ℕ, Bool, true, false, List, Option, Some, None, Ok, IfSome};
 ghost use Rattle.url.specs.Parts.{Parts, serialize};
 ghost use Rattle.origin_core.specs.declared.origin.Origin.{Origin};
 ghost use Rattle.origin_core.specs.declared.origin.Origin.TheVariants.{Tuple};
-ghost use Rattle.origin_core.specs.Origin.{is_same_origin, is_same_origin_domain, origin_text, page_origin, origin_read};
+ghost use Rattle.origin_core.specs.Origin.{is_same_origin, is_same_origin_domain, origin_text, page_tuple, page_origin, origin_read};
 ghost use Rattle.origin_core.specs.Page.{IsPageRecord, IsPageText, page_spelled, read_page};
 ghost use Rattle.origin_core.specs.Tuple.{TupleParts, IsTuple, is_own_port, within_limit};
 ghost use Rattle.origin_core.specs.Host.{IsHost, host_kind};
@@ -20,11 +20,12 @@ pub fn same_origin_is_an_equivalence()
     ensures equality { (a b : Origin) → (is_same_origin a b ≡ true) ↔ (a ≡ b) }
 {}
 
-/// "Same origin-domain" is an equivalence.
+/// "Same origin-domain" is an equivalence. Where neither document has set a domain it is "same origin".
 pub fn same_origin_domain_is_an_equivalence()
-    ensures reflexive { (a : Origin) → is_same_origin_domain a a ≡ true }
-    ensures symmetric { (a b : Origin) → is_same_origin_domain a b ≡ is_same_origin_domain b a }
-    ensures transitive { (a b c : Origin) → is_same_origin_domain a b ≡ true → is_same_origin_domain b c ≡ true → is_same_origin_domain a c ≡ true }
+    ensures reflexive { (a : Origin) (c : Option (List ℕ)) → is_same_origin_domain a c a c ≡ true }
+    ensures symmetric { (a b : Origin) (c d : Option (List ℕ)) → is_same_origin_domain a c b d ≡ is_same_origin_domain b d a c }
+    ensures transitive { (a b c : Origin) (d e f : Option (List ℕ)) → is_same_origin_domain a d b e ≡ true → is_same_origin_domain b e c f ≡ true → is_same_origin_domain a d c f ≡ true }
+    ensures unset { (a b : Origin) → is_same_origin_domain a None b None ≡ is_same_origin a b }
 {}
 
 /// The serialization of a tuple origin, and of a page's origin, reads back to that origin.
@@ -53,11 +54,12 @@ pub fn a_host_tells_its_kind()
 {}
 
 /// Setting a domain keeps a document on its site, and documents with one domain have hosts of one
-/// site.
+/// site. The hosts may be those of any two pages' URLs.
 pub fn a_domain_stays_on_its_site()
     ensures step { (value effective : List ℕ) (ip : Bool) (suffixes : List (List ℕ)) → fits value effective ip suffixes ≡ true → site_host value ip suffixes ≡ site_host effective ip suffixes }
     ensures steps { (host : List ℕ) (ip : Bool) (suffixes : List (List ℕ)) (domain : List ℕ) → IsDomainOf host ip suffixes domain → site_host domain ip suffixes ≡ site_host host ip suffixes }
     ensures one_site { (suffixes : List (List ℕ)) (domain a b : List ℕ) (a_ip b_ip : Bool) → IsHost a a_ip → IsHost b b_ip → IsDomainOf a a_ip suffixes domain → IsDomainOf b b_ip suffixes domain → site_host a a_ip suffixes ≡ site_host b b_ip suffixes }
+    ensures pages { (suffixes : List (List ℕ)) (domain one other : List ℕ) (a b : TupleParts) → page_tuple one ≡ Some a → page_tuple other ≡ Some b → IsDomainOf a.host a.ip suffixes domain → IsDomainOf b.host b.ip suffixes domain → site_host a.host a.ip suffixes ≡ site_host b.host b.ip suffixes }
 {}
 
 /// The site of a domain is one label, a dot and the domain's public suffix: the longest listed one, or where none is listed

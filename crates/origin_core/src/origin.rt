@@ -1,6 +1,6 @@
 //! Origins, and when two of them are the same (HTML Standard, section 7.1.1).
 
-ghost use Rattle.std.specs.Prelude.{◌≡◌, ◌↔◌, ◌++◌, codes, IsTrue, Some, IfOk};
+ghost use Rattle.std.specs.Prelude.{◌≡◌, ◌↔◌, ◌++◌, codes, IsTrue, Some, IfOk, option_copied};
 ghost use Rattle.origin_core.specs.Origin as spec;
 ghost use Rattle.origin_core.specs.Origin.{is_same_origin, is_same_tuple, is_same_origin_domain, origin_words, IsOrigin};
 ghost use Rattle.origin_core.specs.Tuple as parts;
@@ -215,8 +215,7 @@ fn has_same_parts(a: &Origin, b: &Origin) -> bool
 {
     match (a, b) {
         (Origin::Tuple(a), Origin::Tuple(b)) => is_same_tuple(a, b),
-        (Origin::Opaque(a), Origin::Opaque(b)) => a == b,
-        _ => false,
+        _ => is_same_opaque(a, b),
     }
 }
 
@@ -226,12 +225,39 @@ fn is_same_tuple(a: &TupleOrigin, b: &TupleOrigin) -> bool
     a.scheme == b.scheme && a.host == b.host && a.ip == b.ip && a.port == b.port
 }
 
-/// Whether two documents with these origins may reach each other ("same origin-domain"). Every
-/// domain is null. It takes no memory.
-pub fn same_origin_domain(a: &Origin, b: &Origin) -> bool
-    ensures { result ≡ is_same_origin_domain a.now b.now }
+/// Whether two documents with these origins, and the domains that they have set, may reach each other ("same
+/// origin-domain"). It takes no memory.
+pub fn same_origin_domain(
+    a: &Origin,
+    a_domain: Option<&HostText>,
+    b: &Origin,
+    b_domain: Option<&HostText>,
+) -> bool
+    ensures { result ≡ is_same_origin_domain a.now (option_copied a_domain.entry) b.now (option_copied b_domain.entry) }
 {
-    same_origin(a, b)
+    match (a_domain, b_domain) {
+        (None, None) => same_origin(a, b),
+        (Some(c), Some(d)) => has_same_domain(a, c, b, d),
+        _ => is_same_opaque(a, b),
+    }
+}
+
+fn has_same_domain(a: &Origin, c: &HostText, b: &Origin, d: &HostText) -> bool
+    ensures { result ≡ spec.has_same_domain a.now c.now b.now d.now }
+{
+    match (a, b) {
+        (Origin::Tuple(a), Origin::Tuple(b)) => a.scheme == b.scheme && c == d,
+        _ => is_same_opaque(a, b),
+    }
+}
+
+fn is_same_opaque(a: &Origin, b: &Origin) -> bool
+    ensures { result ≡ spec.is_same_opaque a.now b.now }
+{
+    match (a, b) {
+        (Origin::Opaque(a), Origin::Opaque(b)) => a == b,
+        _ => false,
+    }
 }
 
 /// The serialization of an origin (HTML Standard, section 7.1.1): `https://a.test:8443`, and

@@ -31,17 +31,29 @@ pub fn answer(alloc: Global, row: &str) -> Result<String, AllocError> {
     }
 }
 
-// Two origins: whether they are the same, and the same but for their ports' and domains' sake.
+// Two origins, and the domain of each, or nothing: whether they are the same, and whether they are same origin-domain.
 fn same(alloc: Global, given: &str) -> Result<String, AllocError> {
-    let (first, second) = cut(given);
+    let (first, rest) = cut(given);
+    let (second, domains) = cut(rest);
+    let (a_domain, b_domain) = cut(domains);
+    let a_domain = domain_named(alloc, a_domain)?;
+    let b_domain = domain_named(alloc, b_domain)?;
     match (origin_named(alloc, first)?, origin_named(alloc, second)?) {
         (Some(a), Some(b)) => format!(in alloc;
             "{}|{}",
             same_origin(&a, &b),
-            same_origin_domain(&a, &b)
+            same_origin_domain(&a, a_domain.as_ref(), &b, b_domain.as_ref())
         ),
         _ => String::from_str(alloc, "none"),
     }
+}
+
+// The domain that a document has set; where a row has nothing, it has set none.
+fn domain_named(alloc: Global, part: &str) -> Result<Option<HostText>, AllocError> {
+    if part.is_empty() {
+        return Ok(None);
+    }
+    Ok(Some(HostText::copy_of(alloc, part)?))
 }
 
 // Whether a new document 7 is sandboxed, the origin of the one that made it, and the URL that was loaded.

@@ -9,3 +9,6 @@ returns-clause-steps c = law.domain_site
 
 pub returns-clause-one_site : goal.returns-clause-one_site
 returns-clause-one_site c = law.one_site
+
+pub returns-clause-pages : goal.returns-clause-pages
+returns-clause-pages c = law.pages_site
