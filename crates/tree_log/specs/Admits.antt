@@ -1,6 +1,6 @@
 -- Whether an entry can follow a log, this project's own: what it names is there, what it makes has the next numbers, and who made it may.
 use Rattle.std.specs.Prelude.{ℕ, ◌+◌, List, [], ◌∷◌, IsTrue, Option, Some, None, Bool, true, false, not, ◌&&◌, ◌||◌, ◌==◌, nat_lt}
-use Rattle.tree_log.specs.Names.{Entry, Load, What, Open, Frame, Drop, Name, Begin, Commit, Fragment, Opener, Post, Fire, Lapse, Closing, Gone, Lost, Sync, Hidden}
+use Rattle.tree_log.specs.Names.{Entry, Load, What, Open, Frame, Drop, Name, Begin, Commit, Fragment, Opener, Post, Fire, Lapse, Closing, Gone, Lost, Sync, Hidden, Domain}
 use Rattle.tree_log.specs.Tree.{Tree, tree_of, nav_of, is_active}
 
 -- Who made it: no renderer and no document
@@ -54,6 +54,7 @@ admits_what t by actor (Gone nav) = is_renderers by actor && has t.navs nav
 admits_what t by actor (Lost _) = is_nobodys by actor
 admits_what t by actor Sync = is_documents t by actor
 admits_what t by actor Hidden = is_nobodys by actor
+admits_what t by actor (Domain doc _) = is_documents t by actor && has t.docs doc
 
 -- whether the entry can follow a log of this tree
 unfoldable pub admits : Tree → Entry → Bool

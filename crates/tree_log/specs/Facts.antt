@@ -1,7 +1,7 @@
 -- What each entry of a log says of a navigable or of a document (HTML Standard, 7.3). The newest entry that says something decides.
 use Rattle.std.specs.Prelude.{ℕ, ◌+◌, List, [], ◌∷◌, ◌++◌, Option, Some, None, Bool, true, false, ◌||◌, ◌==◌, if◌then◌else◌, unwrap_or, is_some}
 use Rattle.std.specs.Option.{option_or}
-use Rattle.tree_log.specs.Names.{Entry, Load, What, Open, Frame, Drop, Name, Begin, Commit, Opener, Closing, Gone}
+use Rattle.tree_log.specs.Names.{Entry, Load, What, Open, Frame, Drop, Name, Begin, Commit, Opener, Closing, Gone, Domain}
 use Rattle.origin_core.specs.declared.origin.Origin.{Origin}
 
 -- what the newest entry that says something says, or else first
@@ -63,6 +63,11 @@ abbrev pub says_opener : ℕ → What → Option (Option ℕ)
 says_opener n (Open nav _ _ _ _ _ opener _ _ _) = at n nav opener
 says_opener n (Opener nav to) = at n nav to
 says_opener n _ = None
+
+-- the domain that a document has set
+abbrev pub says_domain : ℕ → What → Option (Option (List ℕ))
+says_domain d (Domain doc domain) = at d doc (Some domain)
+says_domain d _ = None
 
 -- the load that an entry begins
 abbrev pub load_in : What → Option Load

@@ -3,4 +3,4 @@ pub use Rattle.tree_log.specs.declared.entry.Entry.{Entry}
 pub use Rattle.tree_log.specs.declared.entry.Load.{Load}
 pub use Rattle.tree_log.specs.declared.entry.Target.{Target}
 pub use Rattle.tree_log.specs.declared.entry.What.{What}
-pub use Rattle.tree_log.specs.declared.entry.What.TheVariants.{Open, Frame, Drop, Name, Begin, Commit, Fragment, Opener, Post, Fire, Lapse, Closing, Gone, Lost, Sync, Hidden}
+pub use Rattle.tree_log.specs.declared.entry.What.TheVariants.{Open, Frame, Drop, Name, Begin, Commit, Fragment, Opener, Post, Fire, Lapse, Closing, Gone, Lost, Sync, Hidden, Domain}

@@ -5,7 +5,7 @@ use Rattle.origin_core.specs.Origin.{is_same_origin_domain}
 use Rattle.tree_log.specs.Names.{Entry}
 use Rattle.origin_core.specs.declared.origin.Origin.{Origin}
 pub use Rattle.tree_log.specs.Log.{is}
-use Rattle.tree_log.specs.Facts.{newest, some_entry, gathered, no_number, Making, no_making, making, activates, drops, says_gone, says_closing, names, says_opener, loads_in, Birth, no_birth, bears, shows, frames_after, loads_after, tops_after, navs_after, docs_after, groups_after}
+use Rattle.tree_log.specs.Facts.{newest, some_entry, gathered, no_number, Making, no_making, making, activates, drops, says_gone, says_closing, names, says_opener, says_domain, loads_in, Birth, no_birth, bears, shows, frames_after, loads_after, tops_after, navs_after, docs_after, groups_after}
 
 -- what is known of a navigable
 pub record Nav : Type 0 where
@@ -22,6 +22,7 @@ pub record Nav : Type 0 where
 pub record Doc : Type 0 where
   pub born : Birth
   pub been_active : Bool
+  pub domain : Option (List ℕ)
 
 -- Numbers that were not made have the answers of an empty log.
 pub record Tree : Type 0 where
@@ -48,7 +49,11 @@ nav_in log n = record {
 }
 
 abbrev pub doc_in : List Entry → ℕ → Doc
-doc_in log d = record { born = newest (λ e. bears d e.what) no_birth log; been_active = some_entry (λ e. shows d e.what) log }
+doc_in log d = record {
+  born = newest (λ e. bears d e.what) no_birth log;
+  been_active = some_entry (λ e. shows d e.what) log;
+  domain = newest (λ e. says_domain d e.what) None log;
+}
 
 -- the tree of a log, newest entry first
 unfoldable pub tree_of : List Entry → Tree
@@ -81,7 +86,11 @@ tree_after t e = record {
     opener = unwrap_or (says_opener n e.what) (t.nav n).opener;
     last_load = unwrap_or (loads_in n e.what) (t.nav n).last_load;
   };
-  doc = λ d. record { born = unwrap_or (bears d e.what) (t.doc d).born; been_active = shows d e.what || (t.doc d).been_active };
+  doc = λ d. record {
+    born = unwrap_or (bears d e.what) (t.doc d).born;
+    been_active = shows d e.what || (t.doc d).been_active;
+    domain = unwrap_or (says_domain d e.what) (t.doc d).domain;
+  };
   frames = λ d. frames_after d e.actor e.what (t.frames d);
   tops = tops_after e.what t.tops;
   loads = loads_after e.what t.loads;
@@ -101,9 +110,13 @@ nav_of t d = (t.doc d).born.nav
 abbrev pub origin_of : Tree → ℕ → Origin
 origin_of t d = (t.doc d).born.origin
 
+-- the domain that a document has set, if it has (HTML Standard, 7.1.1, an origin's domain)
+abbrev pub domain_of : Tree → ℕ → Option (List ℕ)
+domain_of t d = (t.doc d).domain
+
 -- whether two documents are same origin-domain (HTML Standard, 7.1.1)
 abbrev pub same_domain : Tree → ℕ → ℕ → Bool
-same_domain t a b = is_same_origin_domain (origin_of t a) (origin_of t b)
+same_domain t a b = is_same_origin_domain (origin_of t a) (domain_of t a) (origin_of t b) (domain_of t b)
 
 abbrev pub home_of : Tree → ℕ → ℕ
 home_of t d = (t.doc d).born.home

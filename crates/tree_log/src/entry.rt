@@ -1,6 +1,6 @@
 ghost use Rattle.std.specs.Prelude.{◌≡◌, IfOk};
 
-use origin_core::{Flags, Origin, PageUrl};
+use origin_core::{Flags, HostText, Origin, PageUrl};
 use plain_data::{Data, Text};
 use std::alloc::AllocError;
 
@@ -125,6 +125,11 @@ pub enum What {
     Sync,
     /// An entry that isn't shown.
     Hidden,
+    /// A document has set its domain (HTML Standard, 7.1.1.2, the setter of `document.domain`).
+    Domain {
+        doc: u32,
+        domain: HostText,
+    },
 }
 
 /// An entry of the log: the renderer that made it, the document that acted, and what happened.
@@ -263,6 +268,10 @@ impl Clone for What {
             }),
             What::Sync => Ok(What::Sync),
             What::Hidden => Ok(What::Hidden),
+            What::Domain { doc, domain } => Ok(What::Domain {
+                doc: *doc,
+                domain: domain.clone()?,
+            }),
         }
     }
 }

@@ -9,7 +9,7 @@ use Rattle.plain_data.specs.declared.data.Data.{Data}
 use Rattle.tree_log.specs.declared.entry.Load.{Load}
 use Rattle.tree_log.specs.declared.entry.Target.{Target}
 use Rattle.tree_log.specs.declared.entry.Cause.{Cause}
-use Rattle.tree_log.specs.declared.entry.What.TheVariants.{Open, Frame, Drop, Name, Begin, Commit, Fragment, Opener, Closing, Gone, Post, Fire, Lapse, Lost, Sync, Hidden}
+use Rattle.tree_log.specs.declared.entry.What.TheVariants.{Open, Frame, Drop, Name, Begin, Commit, Fragment, Opener, Closing, Gone, Post, Fire, Lapse, Lost, Sync, Hidden, Domain}
 use Rattle.tree_log.specs.Facts.{Birth, doc_of_load, loads_of, with_frame, with_load}
 use Rattle.tree_log.specs.Tree.{Tree, Nav, Doc, tree_after, is}
 use Rattle.tree_log.specs.Urls.{urls_after}
@@ -64,6 +64,10 @@ commit_doc : (t : Tree) (by actor : Option ℕ) (i d b k : ℕ) → (tree_after 
 unfolding tree_after
 commit_doc t by actor i d b k = elim (eqb_tells d k) [ inl p ↦ rw p.0 refl | inr p ↦ rw p.0 refl ]
 
+domain_doc : (t : Tree) (by actor : Option ℕ) (d k : ℕ) (domain : List ℕ) → (tree_after t (entry by actor (Domain d domain))).doc k ≡ cond (eqb d k) (record (t.doc k) { domain = Some domain }) (t.doc k)
+unfolding tree_after
+domain_doc t by actor d k domain = elim (eqb_tells d k) [ inl p ↦ rw p.0 refl | inr p ↦ rw p.0 refl ]
+
 abbrev birth_of : ℕ → Load → Birth
 birth_of nav load = record { nav = nav; origin = load.origin; home = load.home; loaded = true }
 
@@ -98,8 +102,8 @@ abbrev first_birth : ℕ → Origin → ℕ → Birth
 first_birth nav origin home = record { nav = nav; origin = origin; home = home; loaded = false }
 
 abbrev with_docs : ℕ → ℕ → Origin → ℕ → Option Load → ℕ → Doc → Doc
-with_docs i d o h None k old = cond (eqb d k) (record { born = first_birth i o h; been_active = true }) old
-with_docs i d o h (Some l) k old = cond (eqb d k) (record { born = first_birth i o h; been_active = true }) (cond (eqb l.doc k) (record old { born = birth_of i l }) old)
+with_docs i d o h None k old = cond (eqb d k) (record old { born = first_birth i o h; been_active = true }) old
+with_docs i d o h (Some l) k old = cond (eqb d k) (record old { born = first_birth i o h; been_active = true }) (cond (eqb l.doc k) (record old { born = birth_of i l }) old)
 
 open_doc : (t : Tree) (by actor : Option ℕ) (i d g h k : ℕ) (o : Origin) (name : List ℕ) (opener : Option ℕ) (flags : ℕ) (navigator : Option ℕ) (load : Option Load)
     → (tree_after t (entry by actor (Open i d g h o name opener flags navigator load))).doc k ≡ with_docs i d o h load k (t.doc k)
@@ -139,23 +143,23 @@ apart d e k initial old load h = elim (eqb_tells d k) [
 ]
 
 -- two rows pushed, seen as what they say
-push_two : {B : Type 0} (view : DocRow → B) (docs : List DocRow) (a b : DocRow) (d e k : ℕ) (initial : B) (load : B → B) → length docs ≡ d → e ≡ d + 1
-    → view a ≡ initial → view b ≡ load (view no_doc)
-    → view (get_or (docs ++ a ∷ b ∷ []) k no_doc) ≡ cond (eqb d k) initial (cond (eqb e k) (load (view (get_or docs k no_doc))) (view (get_or docs k no_doc)))
+push_two : {B : Type 0} (view : DocRow → B) (docs : List DocRow) (a b : DocRow) (d e k : ℕ) (initial load : B → B) → length docs ≡ d → e ≡ d + 1
+    → view a ≡ initial (view no_doc) → view b ≡ load (view no_doc)
+    → view (get_or (docs ++ a ∷ b ∷ []) k no_doc) ≡ cond (eqb d k) (initial (view (get_or docs k no_doc))) (cond (eqb e k) (load (view (get_or docs k no_doc))) (view (get_or docs k no_doc)))
 push_two view docs a b d e k initial load h next is_a is_b =
     let both : (docs ++ a ∷ []) ++ b ∷ [] ≡ docs ++ a ∷ b ∷ [] = append_assoc docs (a ∷ []) (b ∷ []) in
     let at : length (docs ++ a ∷ []) ≡ e = length-append docs (a ∷ []) ∙ ap (λ n. n + 1) h ∙ sym next in
-    let first : view (get_or (docs ++ a ∷ []) k no_doc) ≡ cond (eqb d k) initial (view (get_or docs k no_doc)) = push_row view (λ x. initial) docs d k no_doc a h is_a in
+    let first : view (get_or (docs ++ a ∷ []) k no_doc) ≡ cond (eqb d k) (initial (view (get_or docs k no_doc))) (view (get_or docs k no_doc)) = push_row view initial docs d k no_doc a h is_a in
     ap (λ rows. view (get_or rows k no_doc)) (sym both)
     ∙ push_row view load (docs ++ a ∷ []) e k no_doc b at is_b
     ∙ ap (λ x. cond (eqb e k) (load x) x) first
-    ∙ apart d e k initial (view (get_or docs k no_doc)) load next
+    ∙ apart d e k (initial (view (get_or docs k no_doc))) (view (get_or docs k no_doc)) load next
 
 push_docs : (docs : List DocRow) (i d h : ℕ) (o : Origin) (load : Option Load) (k : ℕ) → length docs ≡ d → ForSome load (λ l. l.doc ≡ d + 1)
     → doc_facts (get_or (docs ++ new_docs (initial_row i o h) (load_row_if_any i load)) k no_doc) ≡ with_docs i d o h load k (doc_facts (get_or docs k no_doc))
-push_docs docs i d h o None k e next = push_row doc_facts (λ (x : Doc). record { born = first_birth i o h; been_active = true }) docs d k no_doc (initial_row i o h) e refl
+push_docs docs i d h o None k e next = push_row doc_facts (λ (x : Doc). record x { born = first_birth i o h; been_active = true }) docs d k no_doc (initial_row i o h) e refl
 push_docs docs i d h o (Some l) k e next =
-    push_two doc_facts docs (initial_row i o h) (load_row i l) d l.doc k (record { born = first_birth i o h; been_active = true }) (λ (x : Doc). record x { born = birth_of i l }) e (next l refl) refl refl
+    push_two doc_facts docs (initial_row i o h) (load_row i l) d l.doc k (λ (x : Doc). record x { born = first_birth i o h; been_active = true }) (λ (x : Doc). record x { born = birth_of i l }) e (next l refl) refl refl
 
 same_either : {A : Type 0} (b : Bool) (x : A) → cond b x x ≡ x
 same_either true x = refl
@@ -175,7 +179,7 @@ push_urls : (docs : List DocRow) (i d h : ℕ) (o : Origin) (load : Option Load)
     → (get_or (docs ++ new_docs (initial_row i o h) (load_row_if_any i load)) k no_doc).url ≡ with_url load k (get_or docs k no_doc).url
 push_urls docs i d h o None k e next = push_row url_in (λ x. no_doc.url) docs d k no_doc (initial_row i o h) e refl ∙ blank_there docs d k e
 push_urls docs i d h o (Some l) k e next =
-    push_two url_in docs (initial_row i o h) (load_row i l) d l.doc k no_doc.url (λ x. l.url) e (next l refl) refl refl
+    push_two url_in docs (initial_row i o h) (load_row i l) d l.doc k (λ x. no_doc.url) (λ x. l.url) e (next l refl) refl refl
     ∙ elim (eqb_tells l.doc k) as (λ _. cond (eqb d k) no_doc.url (cond (eqb l.doc k) l.url (get_or docs k no_doc).url) ≡ cond (eqb l.doc k) l.url (get_or docs k no_doc).url) [
       | inl p ↦ let away : eqb d k ≡ false = ne_eqb d k (λ q. omega (arith, p.1, q, next l refl)) in rw (p.0, away) refl
       | inr p ↦ rw p.0 (blank_there docs d k e)
@@ -283,6 +287,16 @@ after_fragment navs docs groups len by actor i d url hd =
     (λ k. write_row doc_facts (λ (x : Doc). x) docs d k no_doc doc hd refl ∙ same_either (eqb d k) (doc_facts (get_or docs k no_doc)))
     (λ k. refl) refl (numbers_set is_loaded 0 d docs doc no_doc refl)
     (λ k. write_row url_in (λ x. url) docs d k no_doc doc hd refl ∙ sym (fragment_url (K navs docs groups len).urls by actor i d k url))
+
+pub after_domain : (navs : List NavRow) (docs : List DocRow) (groups len : ℕ) (by actor : Option ℕ) (d : ℕ) (domain : List ℕ) → d < length docs
+    → K navs (set docs d (record (get_or docs d no_doc) { domain = Some domain })) groups (len + 1) ≡ after_known (K navs docs groups len) (entry by actor (Domain d domain))
+unfolding tree_after urls_after
+after_domain navs docs groups len by actor d domain hd =
+    let doc : DocRow = record (get_or docs d no_doc) { domain = Some domain } in
+    same_known _ _ (add-one len) refl (length-set docs d doc) refl (λ n. refl)
+    (λ k. write_row doc_facts (λ (x : Doc). record x { domain = Some domain }) docs d k no_doc doc hd refl ∙ sym (domain_doc (K navs docs groups len).tree by actor d k domain))
+    (λ k. refl) refl (numbers_set is_loaded 0 d docs doc no_doc refl)
+    (λ k. write_row url_in (λ x. x) docs d k no_doc doc hd refl ∙ same_either (eqb d k) (get_or docs k no_doc).url)
 
 pub after_begin : (navs : List NavRow) (docs : List DocRow) (groups len : ℕ) (by actor : Option ℕ) (i : ℕ) (load : Load) → i < length navs → length docs ≡ load.doc
     → K (set navs i (record (nav_row navs i) { last_load = Some load.doc })) (docs ++ load_row i load ∷ []) groups (len + 1)

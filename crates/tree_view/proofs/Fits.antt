@@ -8,7 +8,7 @@ use Rattle.origin_core.specs.declared.origin.Origin.{Origin}
 use Rattle.tree_log.specs.declared.entry.Entry.{Entry}
 use Rattle.tree_log.specs.declared.entry.Load.{Load}
 use Rattle.tree_log.specs.declared.entry.What.{What}
-use Rattle.tree_log.specs.declared.entry.What.TheVariants.{Open, Frame, Drop, Name, Begin, Commit, Fragment, Opener, Closing, Gone}
+use Rattle.tree_log.specs.declared.entry.What.TheVariants.{Open, Frame, Drop, Name, Begin, Commit, Fragment, Opener, Closing, Gone, Domain}
 use Rattle.tree_log.specs.Facts.{doc_of_load}
 use Rattle.tree_log.specs.Tree.{Tree, nav_of}
 use Rattle.tree_log.specs.Admits.{has, has_if_any, is_next, is_next_load, is_documents, admits, admits_what}
@@ -60,6 +60,9 @@ opener_fits t e i to is h =
 
 pub fragment_fits : (t : Tree) (e : Entry) (i d : ℕ) (url : List ℕ) → e.what ≡ Fragment i d url → admits t e ≡ true → d < t.docs
 fragment_fits t e i d url is h = last_there _ t.docs d (of_kind t e (Fragment i d url) is h)
+
+pub domain_fits : (t : Tree) (e : Entry) (d : ℕ) (domain : List ℕ) → e.what ≡ Domain d domain → admits t e ≡ true → d < t.docs
+domain_fits t e d domain is h = last_there _ t.docs d (of_kind t e (Domain d domain) is h)
 
 pub commit_fits : (t : Tree) (e : Entry) (i d b : ℕ) → e.what ≡ Commit i d b → admits t e ≡ true → (i < t.navs) × (d < t.docs) × (nav_of t d ≡ i)
 commit_fits t e i d b is h =

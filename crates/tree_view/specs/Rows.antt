@@ -30,7 +30,7 @@ abbrev pub birth_facts : DocRow → Birth
 birth_facts row = record { nav = row.nav; origin = row.origin; home = row.home; loaded = row.loaded }
 
 abbrev pub doc_facts : DocRow → Doc
-doc_facts row = record { born = birth_facts row; been_active = row.been_active }
+doc_facts row = record { born = birth_facts row; been_active = row.been_active; domain = row.domain }
 
 -- the rows where there is none
 abbrev pub no_nav : NavRow
@@ -46,7 +46,7 @@ no_nav = record {
 }
 
 abbrev pub no_doc : DocRow
-no_doc = record { nav = no_number; origin = Opaque no_number; home = 65536; loaded = false; been_active = false; url = codes "about:blank" }
+no_doc = record { nav = no_number; origin = Opaque no_number; home = 65536; loaded = false; been_active = false; url = codes "about:blank"; domain = None }
 
 -- the number k, if a test passes
 abbrev pub if_so : Bool → ℕ → List ℕ
@@ -93,10 +93,10 @@ after_known k e = record { tree = tree_after k.tree e; urls = urls_after k.urls 
 
 -- the rows of new documents
 abbrev pub initial_row : ℕ → Origin → ℕ → DocRow
-initial_row nav origin home = record { nav = nav; origin = origin; home = home; loaded = false; been_active = true; url = codes "about:blank" }
+initial_row nav origin home = record { nav = nav; origin = origin; home = home; loaded = false; been_active = true; url = codes "about:blank"; domain = None }
 
 abbrev pub load_row : ℕ → Load → DocRow
-load_row nav load = record { nav = nav; origin = load.origin; home = load.home; loaded = true; been_active = false; url = load.url }
+load_row nav load = record { nav = nav; origin = load.origin; home = load.home; loaded = true; been_active = false; url = load.url; domain = None }
 
 abbrev pub load_row_if_any : ℕ → Option Load → Option DocRow
 load_row_if_any nav None = None

@@ -152,5 +152,6 @@ fn can_happen<V: View>(view: &V, entry: &Entry) -> bool
         What::Lost { .. } => is_nobodys(entry),
         What::Sync => is_documents(view, entry),
         What::Hidden => is_nobodys(entry),
+        What::Domain { doc, .. } => is_documents(view, entry) && has_doc(view, *doc),
     }
 }

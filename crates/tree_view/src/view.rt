@@ -1,5 +1,6 @@
 ghost use Rattle.std.specs.Prelude.{◌≡◌, ◌<◌, ℕ, List, length, slice_get, All, Some, OnOk, OnErr, IfSome, IsTrue};
-ghost use Rattle.tree_log.specs.Tree.{Tree, tree_after, nav_of, origin_of, home_of, is_active, is_discarded, parent_of, top_level_of, is_top_level, group_of, children_of, same_domain};
+ghost use Rattle.std.specs.Option.{option_copied};
+ghost use Rattle.tree_log.specs.Tree.{Tree, tree_after, nav_of, origin_of, domain_of, home_of, is_active, is_discarded, parent_of, top_level_of, is_top_level, group_of, children_of, same_domain};
 ghost use Rattle.tree_log.specs.NamedChildren.{child_named};
 ghost use Rattle.tree_log.specs.Siblings.{next_sibling};
 ghost use Rattle.tree_log.specs.Urls.{urls_after};
@@ -7,7 +8,7 @@ ghost use Rattle.tree_log.specs.Admits.{admits};
 ghost use Rattle.tree_view.specs.Grown.{IsGrown};
 
 use crate::admits::can_follow;
-use origin_core::{Flags, Origin, PageUrl};
+use origin_core::{Flags, HostText, Origin, PageUrl};
 use std::alloc::AllocError;
 use tree_log::Entry;
 
@@ -163,6 +164,11 @@ pub trait View {
     fn origin_of(&self, doc: u32) -> &Origin
         requires { doc < (tree self.now).docs }
         ensures { result.now ≡ origin_of (tree self.now) doc };
+
+    /// The domain that a document has set, if it has (HTML Standard, 7.1.1.2).
+    fn domain_of(&self, doc: u32) -> Option<&HostText>
+        requires { doc < (tree self.now).docs }
+        ensures { option_copied result ≡ domain_of (tree self.now) doc };
 
     /// Whether two documents are same origin-domain.
     fn same_domain(&self, a: u32, b: u32) -> bool

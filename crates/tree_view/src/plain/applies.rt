@@ -50,6 +50,7 @@ impl PlainView {
             What::Lost { .. } => self.write_nothing(),
             What::Sync => self.write_nothing(),
             What::Hidden => self.write_nothing(),
+            What::Domain { doc, domain } => self.write_domain(*doc, domain.clone()?),
             What::Open { .. } => {}
             What::Frame { .. } => {}
         }

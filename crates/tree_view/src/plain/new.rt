@@ -106,6 +106,7 @@ fn initial_row(alloc: Global, nav: u32, origin: &Origin, home: u16) -> Result<Do
         loaded: false,
         been_active: true,
         url: about_blank(alloc)?,
+        domain: None,
     })
 }
 
@@ -126,6 +127,7 @@ pub(crate) fn load_row(nav: u32, load: &Load) -> Result<DocRow, AllocError>
         loaded: true,
         been_active: false,
         url: load.url.clone()?,
+        domain: None,
     })
 }
 

@@ -1,11 +1,12 @@
 // One look at one row.
 ghost use Rattle.std.specs.Prelude.{◌≡◌, ◌<◌, ◌||◌, length, IfSome};
+ghost use Rattle.std.specs.Option.{option_copied};
 ghost use Rattle.tree_log.specs.Tree as spec;
-ghost use Rattle.tree_log.specs.Tree.{origin_of};
+ghost use Rattle.tree_log.specs.Tree.{origin_of, domain_of};
 ghost use Rattle.tree_view.specs.Shown.{tree_shown};
 
 use crate::plain::rows::PlainView;
-use origin_core::Origin;
+use origin_core::{HostText, Origin};
 
 impl PlainView {
     pub(crate) fn active_doc(&self, nav: u32) -> u32
@@ -46,5 +47,12 @@ impl PlainView {
         ensures { result.now ≡ origin_of (tree_shown self.now) doc }
     {
         &self.docs[doc as usize].origin
+    }
+
+    pub(crate) fn domain(&self, doc: u32) -> Option<&HostText>
+        requires { doc < length self.now.docs.items }
+        ensures { option_copied result ≡ domain_of (tree_shown self.now) doc }
+    {
+        self.docs[doc as usize].domain.as_ref()
     }
 }

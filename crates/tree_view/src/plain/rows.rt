@@ -2,7 +2,7 @@ ghost use Rattle.std.specs.Prelude.{◌≡◌, ◌<◌, All, length};
 ghost use Rattle.tree_view.specs.Closed.{NavClosed, DocClosed, ParentsFirst, ShowTheirOwn};
 ghost use Rattle.tree_view.specs.Rows.{numbers_of, is_loaded};
 
-use origin_core::{Flags, Origin, PageUrl};
+use origin_core::{Flags, HostText, Origin, PageUrl};
 use plain_data::Text;
 use std::alloc::Global;
 
@@ -38,6 +38,7 @@ pub struct DocRow {
     pub(crate) loaded: bool,
     pub(crate) been_active: bool,
     pub(crate) url: PageUrl,
+    pub(crate) domain: Option<HostText>,
 }
 
 /// A new navigable, with its initial document and the one that it loads.

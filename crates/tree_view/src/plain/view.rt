@@ -1,6 +1,6 @@
 use crate::plain::rows::PlainView;
 use crate::view::View;
-use origin_core::{Flags, Origin, PageUrl, same_origin_domain};
+use origin_core::{Flags, HostText, Origin, PageUrl, same_origin_domain};
 use std::alloc::{AllocError, Global};
 use tree_log::Entry;
 
@@ -154,8 +154,17 @@ impl View for PlainView {
         self.origin(doc)
     }
 
+    fn domain_of(&self, doc: u32) -> Option<&HostText> {
+        self.domain(doc)
+    }
+
     fn same_domain(&self, a: u32, b: u32) -> bool {
-        same_origin_domain(self.origin(a), self.origin(b))
+        same_origin_domain(
+            self.origin(a),
+            self.domain(a),
+            self.origin(b),
+            self.domain(b),
+        )
     }
 
     fn url_of(&self, doc: u32) -> &PageUrl {

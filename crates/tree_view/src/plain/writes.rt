@@ -6,7 +6,7 @@ ghost use Rattle.tree_view.specs.Rows as spec;
 ghost use Rattle.tree_view.specs.Rows.{no_nav, no_doc, new_docs, new_loads};
 
 use crate::plain::rows::{DocRow, NewRows, PlainView};
-use origin_core::PageUrl;
+use origin_core::{HostText, PageUrl};
 use plain_data::Text;
 use std::alloc::AllocError;
 
@@ -176,6 +176,19 @@ impl PlainView {
         ensures len { self.new.len ≡ self.old.len + 1 }
     {
         self.docs[doc as usize].url = url;
+        self.len += 1;
+    }
+
+    /// A document has set its domain.
+    pub(crate) fn write_domain(&mut self, doc: u32, domain: HostText)
+        requires doc { doc < length self.old.docs.items }
+        requires room { self.old.len < 4294967295 }
+        ensures docs { self.new.docs.items ≡ set self.old.docs.items doc (record (get_or self.old.docs.items doc no_doc) { domain = Some domain }) }
+        ensures navs { self.new.navs.items ≡ self.old.navs.items }
+        ensures groups { self.new.groups ≡ self.old.groups }
+        ensures len { self.new.len ≡ self.old.len + 1 }
+    {
+        self.docs[doc as usize].domain = Some(domain);
         self.len += 1;
     }
 

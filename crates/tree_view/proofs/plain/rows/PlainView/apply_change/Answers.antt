@@ -1,10 +1,10 @@
-use Rattle.std.proofs.Common.{◌∙◌, [], ◌∷◌, ◌++◌, set, get_or, sym, ap, arith}
-use Rattle.tree_log.specs.declared.entry.What.TheVariants.{Drop, Name, Begin, Commit, Fragment, Opener, Post, Fire, Lapse, Closing, Gone, Lost, Sync, Hidden}
+use Rattle.std.proofs.Common.{◌∙◌, [], ◌∷◌, ◌++◌, set, get_or, Some, sym, ap, arith}
+use Rattle.tree_log.specs.declared.entry.What.TheVariants.{Drop, Name, Begin, Commit, Fragment, Opener, Post, Fire, Lapse, Closing, Gone, Lost, Sync, Hidden, Domain}
 use Rattle.tree_view.specs.declared.plain.rows.DocRow.{DocRow}
 use Rattle.tree_view.specs.Rows.{no_nav, no_doc}
 use Rattle.tree_view.specs.Shown.{known, tree_shown}
-use Rattle.tree_view.proofs.After.{after_drop, after_gone, after_closing, after_name, after_opener, after_commit, after_fragment, after_begin, after_post, after_fire, after_lapse, after_lost, after_sync, after_hidden}
-use Rattle.tree_view.proofs.Fits.{room, drop_fits, name_fits, closing_fits, gone_fits, opener_fits, fragment_fits, commit_fits, begin_fits}
+use Rattle.tree_view.proofs.After.{after_drop, after_gone, after_closing, after_name, after_opener, after_commit, after_fragment, after_begin, after_post, after_fire, after_lapse, after_lost, after_sync, after_hidden, after_domain}
+use Rattle.tree_view.proofs.Fits.{room, drop_fits, name_fits, closing_fits, gone_fits, opener_fits, fragment_fits, domain_fits, commit_fits, begin_fits}
 use Rattle.tree_view.proofs.NewLaws.{of_rows, kind_is}
 use Rattle.tree_view.proofs.plain.rows.PlainView.apply_change.Goals as goal
 
@@ -49,6 +49,12 @@ write_url-requires-clause-doc c = fragment_fits (tree_shown c.args.self.now) c.a
 
 pub write_url-requires-clause-room : goal.write_url-requires-clause-room
 write_url-requires-clause-room c = room (tree_shown c.args.self.now) c.args.entry.now c.requires.admitted
+
+pub write_domain-requires-clause-doc : goal.write_domain-requires-clause-doc
+write_domain-requires-clause-doc c = domain_fits (tree_shown c.args.self.now) c.args.entry.now c.in-Domain.doc c.in-Domain.domain c.in-Domain.is c.requires.admitted
+
+pub write_domain-requires-clause-room : goal.write_domain-requires-clause-room
+write_domain-requires-clause-room c = room (tree_shown c.args.self.now) c.args.entry.now c.requires.admitted
 
 pub write_opener-requires-clause-nav : goal.write_opener-requires-clause-nav
 write_opener-requires-clause-nav c = (opener_fits (tree_shown c.args.self.now) c.args.entry.now c.in-Opener.nav c.in-Opener.to c.in-Opener.is c.requires.admitted).0
@@ -140,6 +146,10 @@ returns-in_ok-clone-in-Name-clause-ok c = kind_is (known c.args.self.now) (known
 pub returns-in_ok-clone-in-Fragment-clause-ok : goal.returns-in_ok-clone-in-Fragment-clause-ok
 returns-in_ok-clone-in-Fragment-clause-ok c = kind_is (known c.args.self.now) (known c.write_url.new.self) c.args.entry.now (Fragment c.in-Fragment.nav c.in-Fragment.doc c.in-Fragment.url) c.in-Fragment.is
     (of_rows c.write_url.new.self _ _ _ _ c.write_url.ensures.navs (c.write_url.ensures.docs ∙ ap (λ url. set c.args.self.now.docs.items c.in-Fragment.doc (record (get_or c.args.self.now.docs.items c.in-Fragment.doc no_doc) { url = url })) c.in_ok-clone-in-Fragment.ensures.cases) c.write_url.ensures.groups c.write_url.ensures.len ∙ after_fragment c.args.self.now.navs.items c.args.self.now.docs.items c.args.self.now.groups c.args.self.now.len c.args.entry.now.by c.args.entry.now.actor c.in-Fragment.nav c.in-Fragment.doc c.in-Fragment.url (fragment_fits (tree_shown c.args.self.now) c.args.entry.now c.in-Fragment.nav c.in-Fragment.doc c.in-Fragment.url c.in-Fragment.is c.requires.admitted))
+
+pub returns-in_ok-clone-in-Domain-clause-ok : goal.returns-in_ok-clone-in-Domain-clause-ok
+returns-in_ok-clone-in-Domain-clause-ok c = kind_is (known c.args.self.now) (known c.write_domain.new.self) c.args.entry.now (Domain c.in-Domain.doc c.in-Domain.domain) c.in-Domain.is
+    (of_rows c.write_domain.new.self _ _ _ _ c.write_domain.ensures.navs (c.write_domain.ensures.docs ∙ ap (λ domain. set c.args.self.now.docs.items c.in-Domain.doc (record (get_or c.args.self.now.docs.items c.in-Domain.doc no_doc) { domain = Some domain })) c.in_ok-clone-in-Domain.ensures.cases) c.write_domain.ensures.groups c.write_domain.ensures.len ∙ after_domain c.args.self.now.navs.items c.args.self.now.docs.items c.args.self.now.groups c.args.self.now.len c.args.entry.now.by c.args.entry.now.actor c.in-Domain.doc c.in-Domain.domain (domain_fits (tree_shown c.args.self.now) c.args.entry.now c.in-Domain.doc c.in-Domain.domain c.in-Domain.is c.requires.admitted))
 
 pub returns-in_ok-write_begin-in-Begin-clause-ok : goal.returns-in_ok-write_begin-in-Begin-clause-ok
 returns-in_ok-write_begin-in-Begin-clause-ok c = kind_is (known c.args.self.now) (known c.write_begin.new.self) c.args.entry.now (Begin c.in-Begin.nav c.in-Begin.load) c.in-Begin.is
