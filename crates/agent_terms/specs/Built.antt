@@ -24,6 +24,7 @@ is_built (step.Set of key value user) = not (asks_where_set key)
 is_built (step.Call of key args to user) = not (asks_where_called key)
 is_built (step.Open url target noopener user to) = false
 is_built (step.Link url target rel user) = false
+is_built (step.Domain value) = false
 is_built _ = true
 
 abbrev pub IsBuilt : Step → Type 0

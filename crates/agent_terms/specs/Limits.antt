@@ -42,11 +42,11 @@ most_suffix = 253
 
 -- how many acts a record has at most
 abbrev pub most_acts : ℕ
-most_acts = 20000
+most_acts = 40000
 
 -- how many entries a log has at most, but for the losses of renderers
 abbrev pub most_entries : ℕ
-most_entries = 20000
+most_entries = 40000
 
 -- how many entries one exchange may make
 abbrev pub most_made : ℕ

@@ -3,7 +3,7 @@ use Rattle.std.specs.Prelude.{ℕ, List, [], ◌∷◌, codes, Option, bytes_eq,
 use Rattle.agent_terms.specs.declared.step.OpName.{OpName}
 use Rattle.agent_terms.specs.declared.step.OpName.TheVariants as op
 use Rattle.agent_terms.specs.declared.outcome.Rule.{Rule}
-use Rattle.agent_terms.specs.declared.outcome.Rule.TheVariants.{S1, S2, S3, S4, S5, S6, S7, S8}
+use Rattle.agent_terms.specs.declared.outcome.Rule.TheVariants.{S1, S2, S3, S4, S5, S6, S7, S8, S9, S10, S11}
 
 unfoldable pub op_text : OpName → List ℕ
 op_text op.Let = codes "let"
@@ -24,11 +24,12 @@ op_text op.Frame = codes "frame"
 op_text op.Drop = codes "drop"
 op_text op.Open = codes "open"
 op_text op.Link = codes "link"
+op_text op.Domain = codes "domain"
 
 abbrev pub all_ops : List OpName
 all_ops =
     op.Let ∷ op.Get ∷ op.Has ∷ op.Describe ∷ op.Keys ∷ op.Proto ∷ op.SetProto ∷ op.Extensible ∷ op.Prevent ∷ op.Set
-    ∷ op.Define ∷ op.Delete ∷ op.Call ∷ op.Sync ∷ op.Frame ∷ op.Drop ∷ op.Open ∷ op.Link ∷ []
+    ∷ op.Define ∷ op.Delete ∷ op.Call ∷ op.Sync ∷ op.Frame ∷ op.Drop ∷ op.Open ∷ op.Link ∷ op.Domain ∷ []
 
 -- the step that a text names
 unfoldable pub op_named : List ℕ → Option OpName
@@ -43,3 +44,6 @@ rule_text S5 = codes "S5"
 rule_text S6 = codes "S6"
 rule_text S7 = codes "S7"
 rule_text S8 = codes "S8"
+rule_text S9 = codes "S9"
+rule_text S10 = codes "S10"
+rule_text S11 = codes "S11"

@@ -25,10 +25,16 @@ pub enum Rule {
     S7,
     /// The document isn't same origin-domain with that which it would change.
     S8,
+    /// The document is sandboxed, so it may not set its domain.
+    S9,
+    /// The document has no domain, since its origin is opaque.
+    S10,
+    /// The document's domain can't become that one.
+    S11,
 }
 
 impl Rule {
-    /// The rule as records spell it: `S1` to `S8`. It takes no memory.
+    /// The rule as records spell it: `S1` to `S11`. It takes no memory.
     #[tactic(auto, unfolding(crate::specs::Texts::rule_text))]
     pub fn text(self) -> &'static str
         ensures { result.now ≡ rule_text self }
@@ -42,6 +48,9 @@ impl Rule {
             Rule::S6 => "S6",
             Rule::S7 => "S7",
             Rule::S8 => "S8",
+            Rule::S9 => "S9",
+            Rule::S10 => "S10",
+            Rule::S11 => "S11",
         }
     }
 }

@@ -70,6 +70,13 @@ pub enum Request {
         target: Target,
         body: Data,
     },
+    /// The asker is to have a domain, in ASCII letters of either case.
+    Domain {
+        asker: u32,
+        value: Text,
+    },
+    /// The rest of what a reply cut short.
+    More,
 }
 
 /// Why a frame of bytes is none.

@@ -114,6 +114,10 @@ pub enum Step {
         rel: Text,
         user: bool,
     },
+    /// Sets the document's domain.
+    Domain {
+        value: Text,
+    },
 }
 
 /// The name of a step.
@@ -137,9 +141,10 @@ pub enum OpName {
     Drop,
     Open,
     Link,
+    Domain,
 }
 
-const ALL_OPS: [OpName; 18] = [
+const ALL_OPS: [OpName; 19] = [
     OpName::Let,
     OpName::Get,
     OpName::Has,
@@ -158,6 +163,7 @@ const ALL_OPS: [OpName; 18] = [
     OpName::Drop,
     OpName::Open,
     OpName::Link,
+    OpName::Domain,
 ];
 
 impl OpName {
@@ -185,6 +191,7 @@ impl OpName {
             OpName::Drop => "drop",
             OpName::Open => "open",
             OpName::Link => "link",
+            OpName::Domain => "domain",
         }
     }
 

@@ -1,13 +1,15 @@
 -- What the coordinator decides on a request: the entries, newest first, and the outcome. Which requests there are is this
 -- project's own; what each does is that of the HTML Standard: 4.8.5, a frame; 7.2.2.1, open and close; 4.6.4, a link;
--- 7.4.2, navigation; 7.2.2.4, name and opener; 9.3.3, postMessage.
-use Rattle.std.specs.Prelude.{ℕ, ◌+◌, List, [], ◌∷◌, ◌++◌, length, Option, Some, None, Bool, not, ◌==◌, ◌&&◌, ◌||◌, nat_lt, is_none, is_some, unwrap_or, codes, if◌then◌else◌}
+-- 7.4.2, navigation; 7.2.2.4, name and opener; 9.3.3, postMessage; 7.1.1.2, the setter of document.domain.
+use Rattle.std.specs.Prelude.{ℕ, ◌+◌, List, [], ◌∷◌, ◌++◌, length, Option, Some, None, Bool, not, ◌==◌, ◌&&◌, ◌||◌, nat_lt, is_none, is_some, map, unwrap_or, codes, false, if◌then◌else◌}
+use Rattle.std.specs.Char.{to_ascii_lowercase}
 use Rattle.coordinator_rules.specs.Names.{Origin, Request, ReplyOutcome, Session, Entry, Load, What}
-use Rattle.origin_core.specs.Flags.{has_navigation, has_origin, has_propagates, union}
+use Rattle.origin_core.specs.Flags.{has_domain, has_navigation, has_origin, has_propagates, union}
 use Rattle.origin_core.specs.Origin.{page_origin, loaded_origin, frame_origin, window_origin}
 use Rattle.origin_core.specs.Page.{fragment_of, is_same_but_fragment}
-use Rattle.origin_core.specs.Site.{site_of}
-use Rattle.tree_log.specs.Tree.{Tree, tree_of, is, home_of, origin_of, nav_of, is_active, group_of, children_of, same_group, same_domain}
+use Rattle.origin_core.specs.Site.{fits, site_of}
+use Rattle.origin_core.specs.declared.origin.Origin.TheVariants.{Tuple, Opaque}
+use Rattle.tree_log.specs.Tree.{Tree, tree_of, is, home_of, origin_of, nav_of, is_active, group_of, children_of, same_group, same_domain, domain_of}
 use Rattle.tree_log.specs.Urls.{url_of}
 use Rattle.tree_log.specs.Homes.{home_for}
 use Rattle.coordinator_rules.specs.NextTask.{next_task, task_entry}
@@ -96,24 +98,47 @@ or_sync r asker (e ∷ es) = e ∷ es
 abbrev pub made_or_null : Bool → ℕ → ReplyOutcome
 made_or_null noopener n = if noopener then ReplyOutcome.Null else ReplyOutcome.Made n
 
-abbrev pub open_existing : Rules → Tree → (ℕ → List ℕ → Bool) → ℕ → ℕ → Bool → Bool → ℕ → Option (List ℕ) → Decision
-open_existing rules t in_fragment r asker noopener user n None =
-    record { entries = or_sync r asker (opener_entry t r asker noopener n); outcome = made_or_null noopener n }
-open_existing rules t in_fragment r asker noopener user n (Some url) =
-    if may_navigate t (nav_of t asker) n user then
-    record { entries = opener_entry t r asker noopener n ++ by r asker (navigation rules t (in_fragment n url) asker n url) ∷ []; outcome = made_or_null noopener n }
-    else one r asker What.Sync (ReplyOutcome.Security 7)
+-- What a request to open or to follow a link goes by: who asks, on which tree, whether its window gets no opener, and whether a
+-- person caused it
+pub record Asking : Type 0 where
+  pub rules : Rules
+  pub tree : Tree
+  pub renderer : ℕ
+  pub asker : ℕ
+  pub noopener : Bool
+  pub user : Bool
 
-abbrev pub open_chosen : Rules → Tree → (ℕ → List ℕ → Bool) → ℕ → ℕ → Option (List ℕ) → List ℕ → Bool → Bool → Choice → Decision
-open_chosen rules t in_fragment r asker url name noopener user Nothing = one r asker What.Sync ReplyOutcome.Null
-open_chosen rules t in_fragment r asker url name noopener user New = one r asker (new_window rules t asker name noopener url) (made_or_null noopener t.navs)
-open_chosen rules t in_fragment r asker url name noopener user (Existing n) = open_existing rules t in_fragment r asker noopener user n url
+abbrev pub asking : Rules → Tree → ℕ → ℕ → Bool → Bool → Asking
+asking rules t r asker noopener user = record { rules = rules; tree = t; renderer = r; asker = asker; noopener = noopener; user = user }
 
-abbrev pub link_chosen : Rules → Tree → (ℕ → List ℕ → Bool) → ℕ → List ℕ → List ℕ → Bool → Bool → Choice → What
-link_chosen rules t in_fragment asker url name noopener user Nothing = What.Sync
-link_chosen rules t in_fragment asker url name noopener user New = new_window rules t asker name noopener (Some url)
-link_chosen rules t in_fragment asker url name noopener user (Existing n) =
-    if may_navigate t (nav_of t asker) n user then navigation rules t (in_fragment n url) asker n url else What.Sync
+-- whether it may navigate n
+abbrev pub may_send : Asking → ℕ → Bool
+may_send a n = may_navigate a.tree (nav_of a.tree a.asker) n a.user
+
+-- the navigation of n that it comes to
+abbrev pub sent_to : Asking → (ℕ → List ℕ → Bool) → ℕ → List ℕ → What
+sent_to a in_fragment n url = navigation a.rules a.tree (in_fragment n url) a.asker n url
+
+abbrev pub opener_set : Asking → ℕ → List Entry
+opener_set a n = opener_entry a.tree a.renderer a.asker a.noopener n
+
+abbrev pub open_existing : Asking → (ℕ → List ℕ → Bool) → ℕ → Option (List ℕ) → Decision
+open_existing a in_fragment n None = record { entries = or_sync a.renderer a.asker (opener_set a n); outcome = made_or_null a.noopener n }
+open_existing a in_fragment n (Some url) =
+    if may_send a n then
+    record { entries = opener_set a n ++ by a.renderer a.asker (sent_to a in_fragment n url) ∷ []; outcome = made_or_null a.noopener n }
+    else one a.renderer a.asker What.Sync (ReplyOutcome.Security 7)
+
+abbrev pub open_chosen : Asking → (ℕ → List ℕ → Bool) → Option (List ℕ) → List ℕ → Choice → Decision
+open_chosen a in_fragment url name Nothing = one a.renderer a.asker What.Sync ReplyOutcome.Null
+open_chosen a in_fragment url name New =
+    one a.renderer a.asker (new_window a.rules a.tree a.asker name a.noopener url) (made_or_null a.noopener a.tree.navs)
+open_chosen a in_fragment url name (Existing n) = open_existing a in_fragment n url
+
+abbrev pub link_chosen : Asking → (ℕ → List ℕ → Bool) → List ℕ → List ℕ → Choice → What
+link_chosen a in_fragment url name Nothing = What.Sync
+link_chosen a in_fragment url name New = new_window a.rules a.tree a.asker name a.noopener (Some url)
+link_chosen a in_fragment url name (Existing n) = if may_send a n then sent_to a in_fragment n url else What.Sync
 
 -- Other documents: whether one is there, in the asker's group
 abbrev pub is_near : Tree → ℕ → ℕ → Bool
@@ -130,6 +155,29 @@ if_open t r asker doc w =
     else one r asker What.Sync (ReplyOutcome.Security 8)
     else one r asker What.Sync ReplyOutcome.Done
 
+-- Domains: the effective domain of a document, by its origin and the domain that it has set: none for an opaque origin; else
+-- that domain, or its host
+abbrev pub effective_domain : Origin → Option (List ℕ) → Option (List ℕ)
+effective_domain (Opaque n) domain = None
+effective_domain (Tuple t) domain = Some (unwrap_or domain t.host)
+
+abbrev pub is_address : Origin → Bool
+is_address (Opaque n) = false
+is_address (Tuple t) = t.ip
+
+-- a document whose effective domain is this may set one that fits it
+abbrev pub domain_set : Rules → Tree → ℕ → ℕ → List ℕ → Option (List ℕ) → Decision
+domain_set rules t r asker value None = one r asker What.Sync (ReplyOutcome.Security 10)
+domain_set rules t r asker value (Some effective) =
+    if fits value effective (is_address (origin_of t asker)) rules.suffixes then one r asker (What.Domain asker value) ReplyOutcome.Done
+    else one r asker What.Sync (ReplyOutcome.Security 11)
+
+-- and one under the sandbox flag may set none
+abbrev pub domain_decision : Rules → Tree → ℕ → ℕ → List ℕ → Decision
+domain_decision rules t r asker value =
+    if has_domain (flags_in t (nav_of t asker)) then one r asker What.Sync (ReplyOutcome.Security 9)
+    else domain_set rules t r asker value (effective_domain (origin_of t asker) (domain_of t asker))
+
 -- The decision, on a request of a document that is active. It looks at URLs by `in_fragment` alone: whether the navigation of
 -- a navigable to a URL is one to a fragment
 unfoldable pub decide : Rules → Tree → (ℕ → List ℕ → Bool) → ℕ → Request → Decision
@@ -139,9 +187,9 @@ decide rules t in_fragment r (Request.Frame asker name flags url) =
     one r asker (frame_entry rules t asker name (union flags (flags_in t (nav_of t asker))) url) (ReplyOutcome.Made t.navs)
 decide rules t in_fragment r (Request.Drop asker nav) = one r asker (if is_in nav (children_of t asker) then What.Drop nav else What.Sync) ReplyOutcome.Done
 decide rules t in_fragment r (Request.Open asker url name noopener user) =
-    open_chosen rules t in_fragment r asker url name noopener user (choice t (nav_of t asker) name noopener user)
+    open_chosen (asking rules t r asker noopener user) in_fragment url name (choice t (nav_of t asker) name noopener user)
 decide rules t in_fragment r (Request.Link asker url name noopener user) =
-    one r asker (link_chosen rules t in_fragment asker url name noopener user (choice t (nav_of t asker) name noopener user)) ReplyOutcome.Done
+    one r asker (link_chosen (asking rules t r asker noopener user) in_fragment url name (choice t (nav_of t asker) name noopener user)) ReplyOutcome.Done
 decide rules t in_fragment r (Request.Go asker doc url user) =
     if is_live t asker doc then
     if may_navigate t (nav_of t asker) (nav_of t doc) user then one r asker (navigation rules t (in_fragment (nav_of t doc) url) asker (nav_of t doc) url) ReplyOutcome.Done
@@ -153,6 +201,8 @@ decide rules t in_fragment r (Request.Close asker doc user) =
     one r asker (if is_live t asker doc && may_close t (nav_of t asker) (nav_of t doc) user then What.Closing (nav_of t doc) else What.Sync) ReplyOutcome.Done
 decide rules t in_fragment r (Request.Post asker doc target body) =
     one r asker (if is_near t asker doc then What.Post doc (nav_of t asker) (origin_of t asker) target body else What.Sync) ReplyOutcome.Done
+decide rules t in_fragment r (Request.Domain asker value) = domain_decision rules t r asker (map to_ascii_lowercase value)
+decide rules t in_fragment r Request.More = record { entries = []; outcome = ReplyOutcome.Done }
 
 -- Fragments: whether the URL equals that of the navigable's document but for fragments, and its own isn't null (HTML Standard,
 -- 7.4.2.2)
@@ -172,6 +222,8 @@ asker_of (Request.Name asker _ _) = asker
 asker_of (Request.Disown asker _) = asker
 asker_of (Request.Close asker _ _) = asker
 asker_of (Request.Post asker _ _ _) = asker
+asker_of (Request.Domain asker _) = asker
+asker_of Request.More = 0
 
 -- the place of the entry that ended a document
 unfoldable pub end_of : List Entry → ℕ → ℕ
@@ -191,10 +243,11 @@ abbrev pub task_decision : ℕ → ℕ → Option What → Decision
 task_decision r place None = record { entries = []; outcome = ReplyOutcome.Nothing }
 task_decision r place (Some w) = record { entries = task_entry r w ∷ []; outcome = ReplyOutcome.Task place }
 
--- what one exchange of a renderer gives: its next task; or else, where the asker is a document of that renderer, what is
--- decided on the request
+-- what one exchange of a renderer gives: its next task; nothing, where the rest of a reply is told; or else, where the asker is a
+-- document of that renderer, what is decided on the request
 unfoldable pub exchange : Rules → List Entry → ℕ → Request → Decision
 exchange rules log r Request.Next = task_decision r (length log) (next_task log r)
+exchange rules log r Request.More = record { entries = []; outcome = ReplyOutcome.Done }
 exchange rules log r request =
     if is (home_if_active (tree_of log) (asker_of request)) r then asked_decision rules log r request
     else record { entries = []; outcome = ReplyOutcome.NotYours (asker_of request) (home_if_active (tree_of log) (asker_of request)) }

@@ -1,6 +1,7 @@
 pub mod FieldLaws
 pub mod Loops
 pub mod ValueLaws
+pub mod KindLaws
 pub mod SkipLaws
 pub mod DataLaws
 pub mod OriginLaws

@@ -9,7 +9,7 @@ use Rattle.origin_core.specs.declared.origin.Origin.TheVariants as origins
 use Rattle.link_fields.specs.declared.fault.Flaw.TheVariants.{Range}
 use Rattle.link_fields.specs.Field.{◌⊗◌}
 use Rattle.link_fields.specs.Basic.{u16, u32, small, truth, text, optional}
-use Rattle.link_fields.specs.Origins.{scheme_at, scheme_number, scheme, is_kind, host, port, tuple_at, located, tuple, origin_tag, origin_inside, origin_row, origin}
+use Rattle.link_fields.specs.Origins.{scheme_at, scheme_number, scheme, is_kind, host, any_host, port, tuple_at, located, tuple, origin_tag, origin_inside, origin_row, origin}
 use Rattle.link_fields.specs.Lawful.{IsLawful}
 use Rattle.link_fields.proofs.FieldLaws.{at_most, pair_law, only_law, mapped_law, keyed_law, u16_law, u32_law, small_law, truth_law, text_law, optional_law}
 use Rattle.link_fields.proofs.ValueLaws.{row_law, either_law, either_key, never_law}
@@ -21,6 +21,9 @@ number_back (suc (suc n)) h = let le = at_most (suc (suc n)) 1 h.1 in absurd (om
 
 pub scheme_law : IsLawful scheme
 scheme_law = mapped_law scheme_at scheme_number (small 1) number_back (small_law 1)
+
+pub any_host_law : IsLawful any_host
+any_host_law = only_law Range (λ h. is_some (host_kind h)) text text_law
 
 located_law : (k : Scheme × Bool) → IsLawful (located k)
 located_law k =

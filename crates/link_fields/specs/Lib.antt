@@ -1,4 +1,5 @@
 pub mod Field
+pub mod Kinds
 pub mod Lawful
 pub mod Basic
 pub mod Values

@@ -28,6 +28,10 @@ is_kind ip (Some kind) = if kind then ip else not ip
 abbrev pub host : Bool → Field (List ℕ)
 host ip = only Range (λ host. is_kind ip (host_kind host)) text
 
+-- a text that a URL has as its host
+abbrev pub any_host : Field (List ℕ)
+any_host = only Range (λ host. is_some (host_kind host)) text
+
 -- a port other than the scheme's default one
 abbrev pub port : Scheme → Field ℕ
 port s = only Range (λ n. is_own_port s (Some n)) u16

@@ -3,7 +3,7 @@ ghost use Rattle.plain_data.specs.declared.data.Data.{Data};
 ghost use Rattle.plain_data.specs.DataLimits.{within_limits};
 ghost use Rattle.link_fields.specs.Lawful.{IsLawful};
 ghost use Rattle.link_fields.specs.Basic as basic;
-ghost use Rattle.link_fields.specs.Origins.{origin};
+ghost use Rattle.link_fields.specs.Origins.{any_host, origin};
 ghost use Rattle.link_fields.specs.Skipping.{data_field};
 ghost use Rattle.link_fields.specs.Limits.{texts_are_utf8};
 
@@ -16,6 +16,7 @@ pub fn fields_read_back()
     ensures url { IsLawful basic.url }
     ensures optional_url { IsLawful (basic.optional basic.url) }
     ensures flags { IsLawful basic.flags }
+    ensures host { IsLawful any_host }
     ensures origin { IsLawful origin }
     ensures values { IsLawful data_field }
 {}

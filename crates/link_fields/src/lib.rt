@@ -26,10 +26,10 @@ pub use last::LastOrigin;
 pub use numbers::{
     read_bool, read_optional_u16, read_optional_u32, read_small, read_u8, read_u16, read_u32,
 };
-pub use origins::read_origin;
+pub use origins::{read_any_host, read_origin};
 pub use skipping::read_data;
 pub use texts::{read_flag_bits, read_optional_url, read_text, read_url};
 pub use writing::{
-    put_bool, put_data, put_flags, put_optional_u16, put_optional_u32, put_optional_url,
+    put_bool, put_data, put_flags, put_host, put_optional_u16, put_optional_u32, put_optional_url,
     put_origin, put_text, put_u8, put_u16, put_u32, put_url,
 };

@@ -43,6 +43,17 @@ fn read_host(alloc: Global, ip: bool, bytes: &[u8]) -> Result<(HostText, &[u8]),
     Ok((HostText::copy_of(alloc, text)?, rest))
 }
 
+/// A text that a URL has as its host.
+pub fn read_any_host(alloc: Global, bytes: &[u8]) -> Result<(HostText, &[u8]), ReadError>
+    ensures { Gives (λ x. (x.0, x.1.now)) result (spec.any_host.read bytes.now) }
+{
+    let (text, rest) = read_str(bytes)?;
+    if host_kind(alloc, text)?.is_none() {
+        return Err(fault_here(Flaw::Range, bytes));
+    }
+    Ok((HostText::copy_of(alloc, text)?, rest))
+}
+
 fn read_port(scheme: Scheme, bytes: &[u8]) -> Result<(Option<u16>, &[u8]), ReadError>
     ensures value { Gives (λ x. (x.0, x.1.now)) result ((basic.optional (spec.port scheme)).read bytes.now) }
     ensures port { IfOk result (λ x. IsPortOf (parts.scheme_text scheme) x.0) }

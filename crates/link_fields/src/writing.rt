@@ -7,7 +7,7 @@ ghost use Rattle.link_fields.specs.Skipping as skipping;
 ghost use Rattle.link_fields.specs.Origins as origins;
 
 use crate::skipping::MAX_DEPTH;
-use origin_core::{Flags, Origin, PageUrl, Scheme, TupleOrigin};
+use origin_core::{Flags, HostText, Origin, PageUrl, Scheme, TupleOrigin};
 use plain_data::{Data, Text};
 use std::alloc::AllocError;
 
@@ -128,6 +128,13 @@ pub fn put_optional_u32(out: &mut Vec<u8>, number: Option<u32>) -> Result<(), Al
     }
 }
 
+/// Adds the text of a host.
+pub fn put_host(out: &mut Vec<u8>, host: &HostText) -> Result<(), AllocError>
+    ensures { OnOk result (out.new.items ≡ out.old.items ++ origins.any_host.spell host.now) }
+{
+    put_str(out, host.as_str())
+}
+
 fn put_tuple(out: &mut Vec<u8>, tuple: &TupleOrigin) -> Result<(), AllocError>
     ensures { OnOk result (out.new.items ≡ out.old.items ++ origins.tuple.spell tuple.now) }
 {
@@ -139,7 +146,7 @@ fn put_tuple(out: &mut Vec<u8>, tuple: &TupleOrigin) -> Result<(), AllocError>
         },
     )?;
     put_bool(out, tuple.ip)?;
-    put_str(out, tuple.host.as_str())?;
+    put_host(out, &tuple.host)?;
     put_optional_u16(out, tuple.port)
 }
 

@@ -12,11 +12,11 @@ use Rattle.link_fields.specs.Origins.{origin}
 use Rattle.link_fields.specs.Lawful.{IsLawful}
 use Rattle.link_fields.proofs.FieldLaws.{at_most, nothing_law, pair_law, only_law, mapped_law, keyed_law, u8_law, u16_law, u32_law, small_law, text_law, url_law, flags_law, optional_law}
 use Rattle.link_fields.proofs.ValueLaws.{row_law, either_law, either_key, never_law}
-use Rattle.link_fields.proofs.OriginLaws.{origin_law}
+use Rattle.link_fields.proofs.KindLaws.{row_or_law, row_or_key}
+use Rattle.link_fields.proofs.OriginLaws.{origin_law, any_host_law}
 use Rattle.link_fields.proofs.DataLaws.{data_law}
-use Rattle.link_wire.specs.Parts.{target_tag, target_inside, target_row, target, load, cause_at, cause_number, cause}
-use Rattle.link_wire.specs.Entries as entries
-use Rattle.link_wire.specs.Entries.{what_tag, is_what_tag, what_body, what_row, entry_rest, entry}
+use Rattle.frame_grammar.specs.Parts.{target_tag, target_inside, target_row, target, load, cause_at, cause_number, cause}
+use Rattle.frame_grammar.specs.Entries.{open_kind, frame_kind, drop_kind, name_kind, begin_kind, commit_kind, fragment_kind, opener_kind, post_kind, fire_kind, lapse_kind, closing_kind, gone_kind, lost_kind, sync_kind, hidden_kind, domain_kind, what_spelled, what_tag, is_what_tag, what_body, what_row, entry_rest, entry}
 
 -- ---- targets, loads, causes
 
@@ -50,87 +50,47 @@ cause_law = mapped_law cause_at cause_number (small 1) cause_back (small_law 1)
 
 -- ---- what happened
 
-open_law : IsLawful entries.open_row
-open_law = row_law what_body _ entries.open_fields (pair_law _ _ u32_law (pair_law _ _ u32_law (pair_law _ _ u32_law (pair_law _ _ u16_law (pair_law _ _ origin_law (pair_law _ _ text_law (pair_law _ _ (optional_law u32 u32_law) (pair_law _ _ flags_law (pair_law _ _ (optional_law u32 u32_law) (optional_law load load_law)))))))))) (λ x. refl)
-
-frame_law : IsLawful entries.frame_row
-frame_law = row_law what_body _ entries.frame_fields (pair_law _ _ u32_law (pair_law _ _ u32_law (pair_law _ _ u16_law (pair_law _ _ origin_law (pair_law _ _ text_law (pair_law _ _ flags_law (optional_law load load_law))))))) (λ x. refl)
-
-drop_law : IsLawful entries.drop_row
-drop_law = row_law what_body _ entries.drop_fields u32_law (λ x. refl)
-
-name_law : IsLawful entries.name_row
-name_law = row_law what_body _ entries.name_fields (pair_law _ _ u32_law text_law) (λ x. refl)
-
-begin_law : IsLawful entries.begin_row
-begin_law = row_law what_body _ entries.begin_fields (pair_law _ _ u32_law load_law) (λ x. refl)
-
-commit_law : IsLawful entries.commit_row
-commit_law = row_law what_body _ entries.commit_fields (pair_law _ _ u32_law (pair_law _ _ u32_law u32_law)) (λ x. refl)
-
-fragment_law : IsLawful entries.fragment_row
-fragment_law = row_law what_body _ entries.fragment_fields (pair_law _ _ u32_law (pair_law _ _ u32_law url_law)) (λ x. refl)
-
-opener_law : IsLawful entries.opener_row
-opener_law = row_law what_body _ entries.opener_fields (pair_law _ _ u32_law (optional_law u32 u32_law)) (λ x. refl)
-
-post_law : IsLawful entries.post_row
-post_law = row_law what_body _ entries.post_fields (pair_law _ _ u32_law (pair_law _ _ u32_law (pair_law _ _ origin_law (pair_law _ _ target_law data_law)))) (λ x. refl)
-
-fire_law : IsLawful entries.fire_row
-fire_law = row_law what_body _ entries.fire_fields (pair_law _ _ u32_law u32_law) (λ x. refl)
-
-lapse_law : IsLawful entries.lapse_row
-lapse_law = row_law what_body _ entries.lapse_fields (pair_law _ _ u32_law (pair_law _ _ u32_law cause_law)) (λ x. refl)
-
-closing_law : IsLawful entries.closing_row
-closing_law = row_law what_body _ entries.closing_fields u32_law (λ x. refl)
-
-gone_law : IsLawful entries.gone_row
-gone_law = row_law what_body _ entries.gone_fields u32_law (λ x. refl)
-
-lost_law : IsLawful entries.lost_row
-lost_law = row_law what_body _ entries.lost_fields u16_law (λ x. refl)
-
 what_row_law : (tag : ℕ) → IsLawful (what_row tag)
 what_row_law tag =
-    either_law (eqb tag 1) _ _ open_law
-    (either_law (eqb tag 2) _ _ frame_law
-    (either_law (eqb tag 3) _ _ drop_law
-    (either_law (eqb tag 4) _ _ name_law
-    (either_law (eqb tag 5) _ _ begin_law
-    (either_law (eqb tag 6) _ _ commit_law
-    (either_law (eqb tag 7) _ _ fragment_law
-    (either_law (eqb tag 8) _ _ opener_law
-    (either_law (eqb tag 9) _ _ post_law
-    (either_law (eqb tag 10) _ _ fire_law
-    (either_law (eqb tag 11) _ _ lapse_law
-    (either_law (eqb tag 12) _ _ closing_law
-    (either_law (eqb tag 13) _ _ gone_law
-    (either_law (eqb tag 14) _ _ lost_law
-    (either_law (eqb tag 15) _ _ (nothing_law whats.Sync)
-    (either_law (eqb tag 16) _ _ (nothing_law whats.Hidden)
-    (never_law Range))))))))))))))))
+    row_or_law what_spelled tag open_kind _ (pair_law _ _ u32_law (pair_law _ _ u32_law (pair_law _ _ u32_law (pair_law _ _ u16_law (pair_law _ _ origin_law (pair_law _ _ text_law (pair_law _ _ (optional_law u32 u32_law) (pair_law _ _ flags_law (pair_law _ _ (optional_law u32 u32_law) (optional_law load load_law)))))))))) (λ x. refl)
+    (row_or_law what_spelled tag frame_kind _ (pair_law _ _ u32_law (pair_law _ _ u32_law (pair_law _ _ u16_law (pair_law _ _ origin_law (pair_law _ _ text_law (pair_law _ _ flags_law (optional_law load load_law))))))) (λ x. refl)
+    (row_or_law what_spelled tag drop_kind _ u32_law (λ x. refl)
+    (row_or_law what_spelled tag name_kind _ (pair_law _ _ u32_law text_law) (λ x. refl)
+    (row_or_law what_spelled tag begin_kind _ (pair_law _ _ u32_law load_law) (λ x. refl)
+    (row_or_law what_spelled tag commit_kind _ (pair_law _ _ u32_law (pair_law _ _ u32_law u32_law)) (λ x. refl)
+    (row_or_law what_spelled tag fragment_kind _ (pair_law _ _ u32_law (pair_law _ _ u32_law url_law)) (λ x. refl)
+    (row_or_law what_spelled tag opener_kind _ (pair_law _ _ u32_law (optional_law u32 u32_law)) (λ x. refl)
+    (row_or_law what_spelled tag post_kind _ (pair_law _ _ u32_law (pair_law _ _ u32_law (pair_law _ _ origin_law (pair_law _ _ target_law data_law)))) (λ x. refl)
+    (row_or_law what_spelled tag fire_kind _ (pair_law _ _ u32_law u32_law) (λ x. refl)
+    (row_or_law what_spelled tag lapse_kind _ (pair_law _ _ u32_law (pair_law _ _ u32_law cause_law)) (λ x. refl)
+    (row_or_law what_spelled tag closing_kind _ u32_law (λ x. refl)
+    (row_or_law what_spelled tag gone_kind _ u32_law (λ x. refl)
+    (row_or_law what_spelled tag lost_kind _ u16_law (λ x. refl)
+    (row_or_law what_spelled tag sync_kind _ (nothing_law tt) (λ x. refl)
+    (row_or_law what_spelled tag hidden_kind _ (nothing_law tt) (λ x. refl)
+    (row_or_law what_spelled tag domain_kind _ (pair_law _ _ u32_law any_host_law) (λ x. refl)
+    (never_law Range)))))))))))))))))
 
 what_key : (tag : ℕ) (w : What) → (what_row tag).Fits w → what_tag w ≡ tag
 what_key tag w =
-    either_key what_tag tag 1 _ _ w (λ h. ap what_tag (sym h.2))
-    (either_key what_tag tag 2 _ _ w (λ h. ap what_tag (sym h.2))
-    (either_key what_tag tag 3 _ _ w (λ h. ap what_tag (sym h.2))
-    (either_key what_tag tag 4 _ _ w (λ h. ap what_tag (sym h.2))
-    (either_key what_tag tag 5 _ _ w (λ h. ap what_tag (sym h.2))
-    (either_key what_tag tag 6 _ _ w (λ h. ap what_tag (sym h.2))
-    (either_key what_tag tag 7 _ _ w (λ h. ap what_tag (sym h.2))
-    (either_key what_tag tag 8 _ _ w (λ h. ap what_tag (sym h.2))
-    (either_key what_tag tag 9 _ _ w (λ h. ap what_tag (sym h.2))
-    (either_key what_tag tag 10 _ _ w (λ h. ap what_tag (sym h.2))
-    (either_key what_tag tag 11 _ _ w (λ h. ap what_tag (sym h.2))
-    (either_key what_tag tag 12 _ _ w (λ h. ap what_tag (sym h.2))
-    (either_key what_tag tag 13 _ _ w (λ h. ap what_tag (sym h.2))
-    (either_key what_tag tag 14 _ _ w (λ h. ap what_tag (sym h.2))
-    (either_key what_tag tag 15 _ _ w (λ h. ap what_tag h)
-    (either_key what_tag tag 16 _ _ w (λ h. ap what_tag h)
-    (λ h. absurd h))))))))))))))))
+    row_or_key what_spelled tag open_kind _ w (λ x. refl)
+    (row_or_key what_spelled tag frame_kind _ w (λ x. refl)
+    (row_or_key what_spelled tag drop_kind _ w (λ x. refl)
+    (row_or_key what_spelled tag name_kind _ w (λ x. refl)
+    (row_or_key what_spelled tag begin_kind _ w (λ x. refl)
+    (row_or_key what_spelled tag commit_kind _ w (λ x. refl)
+    (row_or_key what_spelled tag fragment_kind _ w (λ x. refl)
+    (row_or_key what_spelled tag opener_kind _ w (λ x. refl)
+    (row_or_key what_spelled tag post_kind _ w (λ x. refl)
+    (row_or_key what_spelled tag fire_kind _ w (λ x. refl)
+    (row_or_key what_spelled tag lapse_kind _ w (λ x. refl)
+    (row_or_key what_spelled tag closing_kind _ w (λ x. refl)
+    (row_or_key what_spelled tag gone_kind _ w (λ x. refl)
+    (row_or_key what_spelled tag lost_kind _ w (λ x. refl)
+    (row_or_key what_spelled tag sync_kind _ w (λ x. refl)
+    (row_or_key what_spelled tag hidden_kind _ w (λ x. refl)
+    (row_or_key what_spelled tag domain_kind _ w (λ x. refl)
+    (λ h. absurd h)))))))))))))))))
 
 -- the row of what happened spells its fields
 pub what_is : (w : What) → (what_row (what_tag w)).spell w ≡ what_body w
@@ -150,6 +110,7 @@ what_is (whats.Gone nav) = refl
 what_is (whats.Lost renderer) = refl
 what_is whats.Sync = refl
 what_is whats.Hidden = refl
+what_is (whats.Domain doc domain) = refl
 
 -- ---- entries
 

@@ -13,7 +13,7 @@ use Rattle.link_fields.proofs.FieldLaws.{wide32}
 use Rattle.link_wire.specs.declared.bad.Bad.{Bad}
 use Rattle.link_fields.specs.Field.{◌>>=◌}
 use Rattle.link_wire.specs.Bad.{Decoded, bad_at}
-use Rattle.link_wire.specs.Frames.{frame, head_at, body_at, split_at, ended, frame_at}
+use Rattle.link_wire.specs.Frames.{version, frame, head_at, body_at, split_at, ended, frame_at}
 
 abbrev ok : {A : Type 0} → A → Decoded A
 ok x = Ok x
@@ -71,7 +71,7 @@ four (a ∷ b ∷ c ∷ d ∷ e ∷ f ∷ rest) h fits = wide32.back (c ∷ d �
 
 -- what a good head says
 pub record Heads (is_kind : ℕ → Bool) (limit : ℕ) (bytes : List ℕ) (kind len : ℕ) : Type 0 where
-  pub is : bytes ≡ 1 ∷ kind ∷ u32.spell len ++ drop 6 bytes
+  pub is : bytes ≡ version ∷ kind ∷ u32.spell len ++ drop 6 bytes
   pub known : is_kind kind ≡ true
   pub small : len ≤ limit
   pub long : 6 ≤ length bytes
@@ -80,25 +80,25 @@ pub head_takes : (is_kind : ℕ → Bool) (limit : ℕ) (bytes : List ℕ) (h : 
 unfolding head_at number_bytes
 head_takes is_kind limit bytes h fits e =
     let len = from_be_bytes w32 (take 4 (drop 2 bytes)) in
-    let a = else_ok (nat_lt 0 (length bytes) && not (eqb (slice_index bytes 0) 1)) (bad_at 0 Version) _ h e in
+    let a = else_ok (nat_lt 0 (length bytes) && not (eqb (slice_index bytes 0) version)) (bad_at 0 Version) _ h e in
     let b = else_ok (nat_lt 1 (length bytes) && not (is_kind (slice_index bytes 1))) (bad_at 1 Kind) _ h a.1 in
     let c = else_ok (nat_lt (length bytes) 6) (bad_at (length bytes) Short) _ h b.1 in
     let d = else_ok (nat_lt limit len) (bad_at 2 Length) (Ok (slice_index bytes 1, len)) h c.1 in
     let long : 6 ≤ length bytes = ltb-false _ _ c.0 in
-    let one : slice_index bytes 0 ≡ 1 = eqb-true _ _ (holds _ _ (lt_test 0 (length bytes) (omega arith)) a.0) in
+    let one : slice_index bytes 0 ≡ version = eqb-true _ _ (holds _ _ (lt_test 0 (length bytes) (omega arith)) a.0) in
     let known : is_kind (slice_index bytes 1) ≡ true = holds _ _ (lt_test 1 (length bytes) (omega arith)) b.0 in
     let small : len ≤ limit = ltb-false _ _ d.0 in
-    let is : bytes ≡ 1 ∷ slice_index bytes 1 ∷ u32.spell len ++ drop 6 bytes = six bytes long ∙ ap (λ n. n ∷ slice_index bytes 1 ∷ take 4 (drop 2 bytes) ++ drop 6 bytes) one ∙ ap (λ (t : List ℕ). 1 ∷ slice_index bytes 1 ∷ t ++ drop 6 bytes) (sym (four bytes long fits)) in
+    let is : bytes ≡ version ∷ slice_index bytes 1 ∷ u32.spell len ++ drop 6 bytes = six bytes long ∙ ap (λ n. n ∷ slice_index bytes 1 ∷ take 4 (drop 2 bytes) ++ drop 6 bytes) one ∙ ap (λ (t : List ℕ). version ∷ slice_index bytes 1 ∷ t ++ drop 6 bytes) (sym (four bytes long fits)) in
     let pair : (slice_index bytes 1, len) ≡ h = cc (d.1) in
     subst (λ (p : ℕ × ℕ). Heads is_kind limit bytes p.0 p.1) pair (record { is = is; known = known; small = small; long = long })
 
-pub head_again : (is_kind : ℕ → Bool) (limit kind len : ℕ) (rest : List ℕ) → is_kind kind ≡ true → len ≤ limit → limit < 2 ^ 32 → head_at is_kind limit (1 ∷ kind ∷ u32.spell len ++ rest) ≡ Ok (kind, len)
+pub head_again : (is_kind : ℕ → Bool) (limit kind len : ℕ) (rest : List ℕ) → is_kind kind ≡ true → len ≤ limit → limit < 2 ^ 32 → head_at is_kind limit (version ∷ kind ∷ u32.spell len ++ rest) ≡ Ok (kind, len)
 unfolding head_at number_bytes
 head_again is_kind limit kind len rest known small lt =
-    let bytes = 1 ∷ kind ∷ u32.spell len ++ rest in
+    let bytes = version ∷ kind ∷ u32.spell len ++ rest in
     let back : from_be_bytes w32 (take 4 (drop 2 bytes)) ≡ len = wide32.again len (omega arith) in
     let long : 6 ≤ length bytes = omega arith in
-    otherwise (nat_lt 0 (length bytes) && not (eqb (slice_index bytes 0) 1)) _ _ (good (nat_lt 0 (length bytes)) _ refl)
+    otherwise (nat_lt 0 (length bytes) && not (eqb (slice_index bytes 0) version)) _ _ (good (nat_lt 0 (length bytes)) _ refl)
     ∙ otherwise (nat_lt 1 (length bytes) && not (is_kind kind)) _ _ (good (nat_lt 1 (length bytes)) _ known)
     ∙ otherwise (nat_lt (length bytes) 6) _ _ (le-ltb _ _ long)
     ∙ otherwise (nat_lt limit (from_be_bytes w32 (take 4 (drop 2 bytes)))) _ _ (le-ltb _ _ (subst (λ n. n ≤ limit) (sym back) small))
@@ -152,7 +152,7 @@ frame_takes {A} is_kind limit rows laws bytes a fits e =
     let t = (laws h.0.0).takes b.0 (a, []) body_fits x in
     let spelled : b.0 ≡ (rows h.0.0).spell a = t.0.parts ∙ append-nil ((rows h.0.0).spell a) in
     let long : length ((rows h.0.0).spell a) ≡ h.0.1 = omega (arith, ap length spelled, ap length s.0, length-drop 6 bytes, s.1) in
-    let is : bytes ≡ frame h.0.0 ((rows h.0.0).spell a) = head.is ∙ ap (λ (r : List ℕ). 1 ∷ h.0.0 ∷ u32.spell h.0.1 ++ r) (s.0 ∙ spelled) ∙ ap (λ n. 1 ∷ h.0.0 ∷ u32.spell n ++ (rows h.0.0).spell a) (sym long) in
+    let is : bytes ≡ frame h.0.0 ((rows h.0.0).spell a) = head.is ∙ ap (λ (r : List ℕ). version ∷ h.0.0 ∷ u32.spell h.0.1 ++ r) (s.0 ∙ spelled) ∙ ap (λ n. version ∷ h.0.0 ∷ u32.spell n ++ (rows h.0.0).spell a) (sym long) in
     (h.0.0, is, t.1, omega (arith, head.small), head.known)
 
 length_of_frame : (k : ℕ) (body : List ℕ) → length (frame k body) ≡ 6 + length body
@@ -183,7 +183,7 @@ frame_again {A} is_kind limit rows laws lt k a known fits small =
 -- no frame begins another
 pub frame_whole : (is_kind : ℕ → Bool) (limit : ℕ) → limit < 2 ^ 32 → (k j : ℕ) (a b x : List ℕ) → is_kind k ≡ true → is_kind j ≡ true → length a ≤ limit → length b ≤ limit → frame k a ++ x ≡ frame j b → x ≡ []
 frame_whole is_kind limit lt k j a b x kk kj sa sb e =
-    let regrouped : frame k a ++ x ≡ 1 ∷ k ∷ u32.spell (length a) ++ (a ++ x) = ap (λ (t : List ℕ). 1 ∷ k ∷ t) (append_assoc (u32.spell (length a)) a x) in
+    let regrouped : frame k a ++ x ≡ version ∷ k ∷ u32.spell (length a) ++ (a ++ x) = ap (λ (t : List ℕ). version ∷ k ∷ t) (append_assoc (u32.spell (length a)) a x) in
     let ha = ap (head_at is_kind limit) regrouped ∙ head_again is_kind limit k (length a) (a ++ x) kk sa lt in
     let hb = head_again is_kind limit j (length b) b kj sb lt in
     let same : length a ≡ length b = ap (λ (p : ℕ × ℕ). p.1) (both_ok _ _ (sym ha ∙ ap (head_at is_kind limit) e ∙ hb)) in

@@ -9,7 +9,8 @@ use Rattle.agent_terms.specs.declared.request.Why.TheVariants.{Version, Kind, Le
 use Rattle.link_wire.specs.declared.bad.Bad.{Bad}
 use Rattle.link_wire.specs.declared.frame.Side.TheVariants as sides
 use Rattle.link_wire.specs.Bad.{Decoded, bad_at}
-use Rattle.link_wire.specs.Frames.{is_kind, limit, head_at}
+use Rattle.frame_grammar.specs.Cut.{most_body}
+use Rattle.link_wire.specs.Frames.{is_kind, version, head_at}
 use Rattle.link_wire.specs.Feeding.{head, is_short, is_part, is_partial}
 
 pub lt_test : (m n : ℕ) → m < n → nat_lt m n ≡ true
@@ -40,15 +41,15 @@ bad_is a b e = cc
 abbrev fails : ℕ → (ℕ → Bool) → List ℕ → Bool
 fails i good bytes = nat_lt i (length bytes) && not (good (slice_index bytes i))
 
-abbrev is_one : ℕ → Bool
-is_one n = eqb n 1
+abbrev is_version : ℕ → Bool
+is_version n = eqb n version
 
 abbrev len_of : List ℕ → ℕ
 len_of bytes = from_be_bytes w32 (take 4 (drop 2 bytes))
 
 -- what a head of six bytes says
 abbrev sixth : List ℕ → Decoded (ℕ × ℕ)
-sixth bytes = cond (nat_lt (limit sides.Request) (len_of bytes)) (Err (bad_at 2 Length)) (Ok (slice_index bytes 1, len_of bytes))
+sixth bytes = cond (nat_lt most_body (len_of bytes)) (Err (bad_at 2 Length)) (Ok (slice_index bytes 1, len_of bytes))
 
 abbrev third : List ℕ → Decoded (ℕ × ℕ)
 third bytes = cond (nat_lt (length bytes) 6) (Err (bad_at (length bytes) Short)) (sixth bytes)
@@ -56,7 +57,7 @@ third bytes = cond (nat_lt (length bytes) 6) (Err (bad_at (length bytes) Short))
 abbrev second : List ℕ → Decoded (ℕ × ℕ)
 second bytes = cond (fails 1 (is_kind sides.Request) bytes) (Err (bad_at 1 Kind)) (third bytes)
 
-head_is : (bytes : List ℕ) → head bytes ≡ cond (fails 0 is_one bytes) (Err (bad_at 0 Version)) (second bytes)
+head_is : (bytes : List ℕ) → head bytes ≡ cond (fails 0 is_version bytes) (Err (bad_at 0 Version)) (second bytes)
 unfolding head_at
 head_is bytes = refl
 
@@ -83,8 +84,8 @@ len_stays bytes more h =
 sixth_stays : (bytes more : List ℕ) → 6 ≤ length bytes → sixth (bytes ++ more) ≡ sixth bytes
 sixth_stays bytes more h =
     let byte : slice_index (bytes ++ more) 1 ≡ slice_index bytes 1 = get_or_append_left bytes more 0 1 (omega arith) in
-    ap (λ n. cond (nat_lt (limit sides.Request) n) (Err (bad_at 2 Length)) (Ok (slice_index (bytes ++ more) 1, n))) (len_stays bytes more h)
-    ∙ ap (λ n. cond (nat_lt (limit sides.Request) (len_of bytes)) (Err (bad_at 2 Length)) (Ok (n, len_of bytes))) byte
+    ap (λ n. cond (nat_lt most_body n) (Err (bad_at 2 Length)) (Ok (slice_index (bytes ++ more) 1, n))) (len_stays bytes more h)
+    ∙ ap (λ n. cond (nat_lt most_body (len_of bytes)) (Err (bad_at 2 Length)) (Ok (n, len_of bytes))) byte
 
 third_is : (bytes : List ℕ) → 6 ≤ length bytes → third bytes ≡ sixth bytes
 third_is bytes h = ap (λ b. cond b (Err (bad_at (length bytes) Short)) (sixth bytes)) (le-ltb _ _ h)
@@ -93,7 +94,7 @@ third_stays : (bytes more : List ℕ) → 6 ≤ length bytes → third (bytes ++
 third_stays bytes more h = third_is (bytes ++ more) (omega (arith, length-append bytes more)) ∙ sixth_stays bytes more h ∙ sym (third_is bytes h)
 
 -- by the first two tests
-by_tests : (bytes : List ℕ) (a b : Bool) (r : Decoded (ℕ × ℕ)) → fails 0 is_one bytes ≡ a → fails 1 (is_kind sides.Request) bytes ≡ b → third bytes ≡ r → head bytes ≡ cond a (Err (bad_at 0 Version)) (cond b (Err (bad_at 1 Kind)) r)
+by_tests : (bytes : List ℕ) (a b : Bool) (r : Decoded (ℕ × ℕ)) → fails 0 is_version bytes ≡ a → fails 1 (is_kind sides.Request) bytes ≡ b → third bytes ≡ r → head bytes ≡ cond a (Err (bad_at 0 Version)) (cond b (Err (bad_at 1 Kind)) r)
 by_tests bytes a b r e f g =
     head_is bytes ∙ ap (λ c. cond c (Err (bad_at 0 Version)) (second bytes)) e
     ∙ ap (λ c. cond a (Err (bad_at 0 Version)) (cond c (Err (bad_at 1 Kind)) (third bytes))) f
@@ -102,7 +103,7 @@ by_tests bytes a b r e f g =
 -- six bytes say it all
 pub six_say_all : (bytes more : List ℕ) → 6 ≤ length bytes → head (bytes ++ more) ≡ head bytes
 six_say_all bytes more h =
-    by_tests (bytes ++ more) _ _ _ (test_stays 0 is_one bytes more (omega arith)) (test_stays 1 (is_kind sides.Request) bytes more (omega arith)) (third_stays bytes more h)
+    by_tests (bytes ++ more) _ _ _ (test_stays 0 is_version bytes more (omega arith)) (test_stays 1 (is_kind sides.Request) bytes more (omega arith)) (third_stays bytes more h)
     ∙ sym (head_is bytes)
 
 -- ---- by what a head says
@@ -112,7 +113,7 @@ no_bad bad h e = absurd cc
 
 pub good_is_long : (bytes : List ℕ) (h : ℕ × ℕ) → head bytes ≡ Ok h → 6 ≤ length bytes
 good_is_long bytes h e =
-    elim (either (fails 0 is_one bytes) (Err (bad_at 0 Version)) (second bytes) (Ok h) (sym (head_is bytes) ∙ e)) [
+    elim (either (fails 0 is_version bytes) (Err (bad_at 0 Version)) (second bytes) (Ok h) (sym (head_is bytes) ∙ e)) [
       | inl a ↦ no_bad (bad_at 0 Version) h a.1
       | inr a ↦ elim (either (fails 1 (is_kind sides.Request) bytes) (Err (bad_at 1 Kind)) (third bytes) (Ok h) a.1) [
         | inl b ↦ no_bad (bad_at 1 Kind) h b.1
@@ -134,13 +135,13 @@ no_good h bad e = absurd cc
 
 pub short_is_short : (bytes : List ℕ) (bad : Bad) → head bytes ≡ Err bad → is_short bad.why ≡ true → length bytes < 6
 short_is_short bytes bad e short =
-    elim (either (fails 0 is_one bytes) (Err (bad_at 0 Version)) (second bytes) (Err bad) (sym (head_is bytes) ∙ e)) [
+    elim (either (fails 0 is_version bytes) (Err (bad_at 0 Version)) (second bytes) (Err bad) (sym (head_is bytes) ∙ e)) [
       | inl a ↦ clash (bad_at 0 Version) bad a.1 refl short
       | inr a ↦ elim (either (fails 1 (is_kind sides.Request) bytes) (Err (bad_at 1 Kind)) (third bytes) (Err bad) a.1) [
         | inl b ↦ clash (bad_at 1 Kind) bad b.1 refl short
         | inr b ↦ elim (either (nat_lt (length bytes) 6) (Err (bad_at (length bytes) Short)) (sixth bytes) (Err bad) b.1) [
           | inl c ↦ below (length bytes) 6 c.0
-          | inr c ↦ elim (either (nat_lt (limit sides.Request) (len_of bytes)) (Err (bad_at 2 Length)) (Ok (slice_index bytes 1, len_of bytes)) (Err bad) c.1) [
+          | inr c ↦ elim (either (nat_lt most_body (len_of bytes)) (Err (bad_at 2 Length)) (Ok (slice_index bytes 1, len_of bytes)) (Err bad) c.1) [
             | inl d ↦ clash (bad_at 2 Length) bad d.1 refl short
             | inr d ↦ no_good (slice_index bytes 1, len_of bytes) bad d.1
           ]
@@ -150,12 +151,12 @@ short_is_short bytes bad e short =
 
 pub bad_stays : (bytes more : List ℕ) (bad : Bad) → head bytes ≡ Err bad → is_short bad.why ≡ false → head (bytes ++ more) ≡ Err bad
 bad_stays bytes more bad e good =
-    elim (either (fails 0 is_one bytes) (Err (bad_at 0 Version)) (second bytes) (Err bad) (sym (head_is bytes) ∙ e)) [
-      | inl a ↦ (let stays = test_stays 0 is_one bytes more (fails_there 0 is_one bytes a.0) in
+    elim (either (fails 0 is_version bytes) (Err (bad_at 0 Version)) (second bytes) (Err bad) (sym (head_is bytes) ∙ e)) [
+      | inl a ↦ (let stays = test_stays 0 is_version bytes more (fails_there 0 is_version bytes a.0) in
           head_is (bytes ++ more) ∙ ap (λ c. cond c (Err (bad_at 0 Version)) (second (bytes ++ more))) (stays ∙ a.0) ∙ a.1)
       | inr a ↦ elim (either (fails 1 (is_kind sides.Request) bytes) (Err (bad_at 1 Kind)) (third bytes) (Err bad) a.1) [
         | inl b ↦ (let lt = fails_there 1 (is_kind sides.Request) bytes b.0 in
-            let one = test_stays 0 is_one bytes more (omega arith) in
+            let one = test_stays 0 is_version bytes more (omega arith) in
             let two = test_stays 1 (is_kind sides.Request) bytes more lt in
             by_tests (bytes ++ more) false true (third (bytes ++ more)) (one ∙ a.0) (two ∙ b.0) refl ∙ b.1)
         | inr b ↦ elim (either (nat_lt (length bytes) 6) (Err (bad_at (length bytes) Short)) (sixth bytes) (Err bad) b.1) [

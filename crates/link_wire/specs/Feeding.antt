@@ -7,11 +7,12 @@ use Rattle.link_wire.specs.declared.frame.Side.TheVariants as sides
 use Rattle.link_wire.specs.declared.reader.Fed.{Fed}
 use Rattle.link_wire.specs.declared.reader.Fed.TheVariants as feds
 use Rattle.link_wire.specs.Bad.{Decoded, bad_at}
-use Rattle.link_wire.specs.Frames.{is_kind, limit, head_at}
+use Rattle.frame_grammar.specs.Cut.{most_body}
+use Rattle.link_wire.specs.Frames.{is_kind, head_at}
 
 -- kind and length of the body of the request at the front
 abbrev pub head : List ℕ → Decoded (ℕ × ℕ)
-head bytes = head_at (is_kind sides.Request) (limit sides.Request) bytes
+head bytes = head_at (is_kind sides.Request) most_body bytes
 
 abbrev pub is_short : Why → Bool
 is_short whys.Version = false

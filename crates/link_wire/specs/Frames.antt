@@ -1,4 +1,4 @@
--- Frames: version 1, kind, length of the body, body. A body's fields are read by a table of kinds.
+-- Frames: version 2, kind, length of the body, body. A body's fields are read by a table of kinds.
 use Rattle.std.specs.Prelude.{ℕ, ◌+◌, ◌-◌, ◌==◌, nat_lt, nat_le, ◌&&◌, not, List, ◌∷◌, ◌++◌, length, take, drop, slice_index, Bool, Ok, Err, if◌then◌else◌}
 use Rattle.std.specs.Int.{w32, from_be_bytes}
 use Rattle.agent_terms.specs.declared.request.Why.TheVariants.{Version, Kind, Length, Short, Tail}
@@ -8,23 +8,22 @@ use Rattle.link_wire.specs.declared.frame.Side.{Side}
 use Rattle.link_wire.specs.declared.frame.Side.TheVariants as sides
 use Rattle.link_wire.specs.Bad.{Decoded, bad_at, why_of_flaw}
 
--- kinds 1 to 11 are requests, 65 to 74 (41 to 4a in hexadecimal) are replies
+-- kinds 1 to 13 are requests, 65 to 74 (41 to 4a in hexadecimal) are replies
 abbrev pub is_kind : Side → ℕ → Bool
-is_kind sides.Request kind = nat_le 1 kind && nat_le kind 11
+is_kind sides.Request kind = nat_le 1 kind && nat_le kind 13
 is_kind sides.Reply kind = nat_le 65 kind && nat_le kind 74
 
--- how many bytes a body may have: 64 KiB and 256 MiB
-abbrev pub limit : Side → ℕ
-limit sides.Request = 65536
-limit sides.Reply = 268435456
+-- the first byte of each frame
+abbrev pub version : ℕ
+version = 2
 
 abbrev pub frame : ℕ → List ℕ → List ℕ
-frame kind body = 1 ∷ kind ∷ u32.spell (length body) ++ body
+frame kind body = version ∷ kind ∷ u32.spell (length body) ++ body
 
 -- kind and length of the body
 unfoldable pub head_at : (ℕ → Bool) → ℕ → List ℕ → Decoded (ℕ × ℕ)
 head_at known most bytes =
-    if nat_lt 0 (length bytes) && not (slice_index bytes 0 == 1) then Err (bad_at 0 Version)
+    if nat_lt 0 (length bytes) && not (slice_index bytes 0 == version) then Err (bad_at 0 Version)
     else (if nat_lt 1 (length bytes) && not (known (slice_index bytes 1)) then Err (bad_at 1 Kind)
     else (if nat_lt (length bytes) 6 then Err (bad_at (length bytes) Short)
     else (if nat_lt most (from_be_bytes w32 (take 4 (drop 2 bytes))) then Err (bad_at 2 Length)

@@ -1,9 +1,7 @@
 pub mod Bad
 pub mod Frames
-pub mod Parts
 pub mod Requests
-pub mod Entries
-pub mod ReplyParts
+pub mod ReplyView
 pub mod Replies
 pub mod Feeding
 pub mod Streams

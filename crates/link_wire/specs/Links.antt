@@ -1,5 +1,5 @@
--- What a link answers to a request. The entries that a renderer heard stand newest first, those of a reply oldest first.
-use Rattle.std.specs.Prelude.{◌≡◌, ℕ, ◌+◌, ◌≤◌, nat_lt, nat_le, ◌==◌, ◌&&◌, List, [], ◌∷◌, ◌++◌, length, reverse, Bool, true, false, not, Option, Some, None, is_some, Result, Ok, Err}
+-- What a link answers to requests. The entries that a renderer heard stand newest first, those of a reply oldest first.
+use Rattle.std.specs.Prelude.{◌≡◌, ℕ, ◌+◌, ◌≤◌, nat_lt, nat_le, ◌==◌, ◌&&◌, List, [], ◌∷◌, ◌++◌, length, reverse, Bool, true, false, not, Option, Some, None, is_some, Result, Ok, Err, if◌then◌else◌}
 use Rattle.ports.specs.Causes.{Rose, StandsStill}
 use Rattle.tree_log.specs.declared.entry.Entry.{Entry}
 use Rattle.tree_log.specs.declared.entry.What.{What}
@@ -7,13 +7,14 @@ use Rattle.tree_log.specs.declared.entry.What.TheVariants.{Commit, Post, Fire, L
 use Rattle.tree_log.specs.Admits.{admits}
 use Rattle.tree_log.specs.Log.{entry_at}
 use Rattle.tree_log.specs.Tree.{tree_of, home_of}
+use Rattle.agent_terms.specs.Limits.{most_entries, most_renderers}
 use Rattle.agent_terms.specs.declared.request.Request.{Request}
 use Rattle.agent_terms.specs.declared.request.Request.TheVariants as ask
 use Rattle.agent_terms.specs.declared.request.ReplyOutcome.{ReplyOutcome}
 use Rattle.agent_terms.specs.declared.request.ReplyOutcome.TheVariants as reply
 use Rattle.link_wire.specs.declared.link.LinkError.{LinkError}
 use Rattle.link_wire.specs.declared.link.LinkError.TheVariants.{Failed}
-use Rattle.link_wire.specs.ReplyParts.{ReplyParts}
+use Rattle.frame_grammar.specs.Cut.{ReplyParts}
 use Rattle.link_wire.specs.Requests.{request_read}
 use Rattle.link_wire.specs.Replies.{reply_of}
 
@@ -36,6 +37,8 @@ is_fit r heard (ask.Name asker _ _) = is_own r heard asker
 is_fit r heard (ask.Disown asker _) = is_own r heard asker
 is_fit r heard (ask.Close asker _ _) = is_own r heard asker
 is_fit r heard (ask.Post asker _ _ _) = is_own r heard asker
+is_fit r heard (ask.Domain asker _) = is_own r heard asker
+is_fit r heard ask.More = true
 
 -- ---- replies
 
@@ -56,6 +59,9 @@ is_answer (ask.Drop _ _) reply.Done = true
 is_answer (ask.Link _ _ _ _ _) reply.Done = true
 is_answer (ask.Close _ _ _) reply.Done = true
 is_answer (ask.Post _ _ _ _) reply.Done = true
+is_answer (ask.Domain _ _) reply.Done = true
+is_answer (ask.Domain _ _) (reply.Security rule) = nat_le 9 rule && nat_le rule 11
+is_answer ask.More reply.Done = true
 is_answer _ _ = false
 
 -- the request may have this outcome
@@ -64,6 +70,7 @@ answers ask.Next (reply.Task place) = true
 answers ask.Next reply.Nothing = true
 answers ask.Next (reply.Full len) = true
 answers ask.Next _ = false
+answers ask.More outcome = is_answer ask.More outcome
 answers request (reply.Unloaded place) = true
 answers request (reply.Full len) = true
 answers request outcome = is_answer request outcome
@@ -99,22 +106,48 @@ names_what_is_there r log older (reply.Made nav) = nat_lt nav (tree_of log).navs
 names_what_is_there r log older (reply.Task place) = nat_le older place && is_some_task r log (entry_at log place)
 names_what_is_there r log older _ = true
 
--- a reply to the request of the renderer that heard these entries
-pub record IsReplyTo (r : ℕ) (heard : List Entry) (request : Request) (answer : ReplyParts) : Type 0 where
+-- ---- steps: a request, and the calls of More behind it until no more is to be told
+
+-- a step whose replies so far leave more to be told: the outcome of its first reply, and how many entries had been heard before it
+pub record Pending : Type 0 where
+  pub outcome : ReplyOutcome
+  pub older : ℕ
+
+-- The step that a reply belongs to, by how many entries had been heard before it: More goes on with the step that is under way,
+-- and any other request begins one.
+abbrev pub step_of : ℕ → Option Pending → Request → ReplyOutcome → Pending
+step_of heard (Some step) ask.More outcome = step
+step_of heard pending request outcome = record { outcome = outcome; older = heard }
+
+-- what is under way after a reply
+abbrev pub under_way : ℕ → Option Pending → Request → ReplyParts → Option Pending
+under_way heard pending request answer = if answer.more then Some (step_of heard pending request answer.outcome) else None
+
+-- what the outcome of a step names is there
+abbrev pub names_of_step : ℕ → List Entry → Pending → Bool
+names_of_step r log step = names_what_is_there r log step.older step.outcome
+
+-- how many entries a renderer hears at most
+abbrev pub most_heard : ℕ
+most_heard = most_entries + most_renderers
+
+-- A reply to the request of the renderer that heard these entries, where this step was under way. Once the step has no more to
+-- tell, what its outcome names is there.
+pub record IsReplyTo (r : ℕ) (heard : List Entry) (pending : Option Pending) (request : Request) (answer : ReplyParts) : Type 0 where
   pub outcome : answers request answer.outcome ≡ true
   pub from : answer.from ≡ length heard
   pub admitted : are_admitted heard answer.news ≡ true
-  pub room : length heard + length answer.news ≤ 20016
-  pub there : names_what_is_there r (reverse answer.news ++ heard) (length heard) answer.outcome ≡ true
+  pub room : length heard + length answer.news ≤ most_heard
+  pub there : answer.more ≡ false → names_of_step r (reverse answer.news ++ heard) (step_of (length heard) pending request answer.outcome) ≡ true
 
 -- ---- calls
 
 -- to a fit request a link that tells answers with a reply to it
-abbrev pub AnswersFit : Option ℕ → Option (List Entry) → List ℕ → Result (Unit {0}) LinkError → List ℕ → Type 0
-AnswersFit (Some r) (Some heard) bytes (Ok _) answer =
+abbrev pub AnswersFit : Option ℕ → Option (List Entry) → Option Pending → List ℕ → Result (Unit {0}) LinkError → List ℕ → Type 0
+AnswersFit (Some r) (Some heard) pending bytes (Ok _) answer =
     (request : Request) → request_read bytes ≡ Ok request → is_fit r heard request ≡ true
-    → (parts : ReplyParts) × (reply_of answer ≡ Ok parts) × IsReplyTo r heard request parts
-AnswersFit _ _ bytes _ answer = Unit {0}
+    → (parts : ReplyParts) × (reply_of answer ≡ Ok parts) × IsReplyTo r heard pending request parts
+AnswersFit _ _ pending bytes _ answer = Unit {0}
 
 -- what was heard only grows, or is told no more
 abbrev pub Grows : Option (List Entry) → Option (List Entry) → Type 0
@@ -126,6 +159,13 @@ Grows (Some heard) (Some now) = (news : List Entry) × (now ≡ news ++ heard)
 abbrev pub Hears : Option (List Entry) → Result (Unit {0}) LinkError → List ℕ → Option (List Entry) → Type 0
 Hears (Some heard) (Ok _) answer now = (parts : ReplyParts) × (reply_of answer ≡ Ok parts) × (now ≡ Some (reverse parts.news ++ heard))
 Hears old _ answer now = Grows old now
+
+-- what is under way after a call that succeeds: by its request and its reply, where the link tells what was heard
+abbrev pub GoesOn : Option (List Entry) → Option Pending → List ℕ → Result (Unit {0}) LinkError → List ℕ → Option Pending → Type 0
+GoesOn (Some heard) pending bytes (Ok _) answer now =
+    (request : Request) (parts : ReplyParts) → request_read bytes ≡ Ok request → reply_of answer ≡ Ok parts
+    → now ≡ under_way (length heard) pending request parts
+GoesOn _ pending bytes _ answer now = Unit {0}
 
 -- the renderer stays, or is told no more
 abbrev pub Stays : Option ℕ → Option ℕ → Type 0

@@ -1,26 +1,23 @@
 ghost use Rattle.std.specs.Prelude.{◌≡◌};
 ghost use Rattle.link_fields.specs.Field.{Gives};
 ghost use Rattle.link_fields.specs.Values.{items_at};
-ghost use Rattle.link_wire.specs.Entries as spec;
+ghost use Rattle.frame_grammar.specs.Entries as spec;
 
 use crate::parts::{read_cause, read_load, read_optional_load, read_target};
 use link_fields::{
-    Flaw, LastOrigin, ReadError, fault_here, read_data, read_flag_bits, read_optional_u16,
-    read_optional_u32, read_text, read_u8, read_u16, read_u32, read_url,
+    Flaw, LastOrigin, ReadError, fault_here, read_any_host, read_data, read_flag_bits,
+    read_optional_u16, read_optional_u32, read_text, read_u8, read_u16, read_u32, read_url,
 };
 use origin_core::Flags;
 use std::alloc::Global;
 use tree_log::{Entry, What};
-
-// How many entries a log has at most, but for the losses of renderers. It bounds no answer here, but the room that is made.
-const MOST_ENTRIES: usize = 20_000;
 
 fn read_open<'a>(
     alloc: Global,
     last: &mut LastOrigin,
     bytes: &'a [u8],
 ) -> Result<(What, &'a [u8]), ReadError>
-    ensures { Gives (λ x. (x.0, x.1.now)) result (spec.open_row.read bytes.now) }
+    ensures { Gives (λ x. (x.0, x.1.now)) result ((spec.what_of spec.open_kind).read bytes.now) }
 {
     let (nav, rest) = read_u32(bytes)?;
     let (doc, rest) = read_u32(rest)?;
@@ -54,7 +51,7 @@ fn read_frame<'a>(
     last: &mut LastOrigin,
     bytes: &'a [u8],
 ) -> Result<(What, &'a [u8]), ReadError>
-    ensures { Gives (λ x. (x.0, x.1.now)) result (spec.frame_row.read bytes.now) }
+    ensures { Gives (λ x. (x.0, x.1.now)) result ((spec.what_of spec.frame_kind).read bytes.now) }
 {
     let (nav, rest) = read_u32(bytes)?;
     let (doc, rest) = read_u32(rest)?;
@@ -78,14 +75,14 @@ fn read_frame<'a>(
 }
 
 fn read_drop(bytes: &[u8]) -> Result<(What, &[u8]), ReadError>
-    ensures { Gives (λ x. (x.0, x.1.now)) result (spec.drop_row.read bytes.now) }
+    ensures { Gives (λ x. (x.0, x.1.now)) result ((spec.what_of spec.drop_kind).read bytes.now) }
 {
     let (nav, rest) = read_u32(bytes)?;
     Ok((What::Drop { nav }, rest))
 }
 
 fn read_name(alloc: Global, bytes: &[u8]) -> Result<(What, &[u8]), ReadError>
-    ensures { Gives (λ x. (x.0, x.1.now)) result (spec.name_row.read bytes.now) }
+    ensures { Gives (λ x. (x.0, x.1.now)) result ((spec.what_of spec.name_kind).read bytes.now) }
 {
     let (nav, rest) = read_u32(bytes)?;
     let (name, rest) = read_text(alloc, rest)?;
@@ -97,7 +94,7 @@ fn read_begin<'a>(
     last: &mut LastOrigin,
     bytes: &'a [u8],
 ) -> Result<(What, &'a [u8]), ReadError>
-    ensures { Gives (λ x. (x.0, x.1.now)) result (spec.begin_row.read bytes.now) }
+    ensures { Gives (λ x. (x.0, x.1.now)) result ((spec.what_of spec.begin_kind).read bytes.now) }
 {
     let (nav, rest) = read_u32(bytes)?;
     let (load, rest) = read_load(alloc, last, rest)?;
@@ -105,7 +102,7 @@ fn read_begin<'a>(
 }
 
 fn read_commit(bytes: &[u8]) -> Result<(What, &[u8]), ReadError>
-    ensures { Gives (λ x. (x.0, x.1.now)) result (spec.commit_row.read bytes.now) }
+    ensures { Gives (λ x. (x.0, x.1.now)) result ((spec.what_of spec.commit_kind).read bytes.now) }
 {
     let (nav, rest) = read_u32(bytes)?;
     let (doc, rest) = read_u32(rest)?;
@@ -114,7 +111,7 @@ fn read_commit(bytes: &[u8]) -> Result<(What, &[u8]), ReadError>
 }
 
 fn read_fragment(alloc: Global, bytes: &[u8]) -> Result<(What, &[u8]), ReadError>
-    ensures { Gives (λ x. (x.0, x.1.now)) result (spec.fragment_row.read bytes.now) }
+    ensures { Gives (λ x. (x.0, x.1.now)) result ((spec.what_of spec.fragment_kind).read bytes.now) }
 {
     let (nav, rest) = read_u32(bytes)?;
     let (doc, rest) = read_u32(rest)?;
@@ -123,7 +120,7 @@ fn read_fragment(alloc: Global, bytes: &[u8]) -> Result<(What, &[u8]), ReadError
 }
 
 fn read_opener(bytes: &[u8]) -> Result<(What, &[u8]), ReadError>
-    ensures { Gives (λ x. (x.0, x.1.now)) result (spec.opener_row.read bytes.now) }
+    ensures { Gives (λ x. (x.0, x.1.now)) result ((spec.what_of spec.opener_kind).read bytes.now) }
 {
     let (nav, rest) = read_u32(bytes)?;
     let (to, rest) = read_optional_u32(rest)?;
@@ -135,7 +132,7 @@ fn read_post<'a>(
     last: &mut LastOrigin,
     bytes: &'a [u8],
 ) -> Result<(What, &'a [u8]), ReadError>
-    ensures { Gives (λ x. (x.0, x.1.now)) result (spec.post_row.read bytes.now) }
+    ensures { Gives (λ x. (x.0, x.1.now)) result ((spec.what_of spec.post_kind).read bytes.now) }
 {
     let (to, rest) = read_u32(bytes)?;
     let (from, rest) = read_u32(rest)?;
@@ -155,7 +152,7 @@ fn read_post<'a>(
 }
 
 fn read_fire(bytes: &[u8]) -> Result<(What, &[u8]), ReadError>
-    ensures { Gives (λ x. (x.0, x.1.now)) result (spec.fire_row.read bytes.now) }
+    ensures { Gives (λ x. (x.0, x.1.now)) result ((spec.what_of spec.fire_kind).read bytes.now) }
 {
     let (doc, rest) = read_u32(bytes)?;
     let (post, rest) = read_u32(rest)?;
@@ -163,7 +160,7 @@ fn read_fire(bytes: &[u8]) -> Result<(What, &[u8]), ReadError>
 }
 
 fn read_lapse(bytes: &[u8]) -> Result<(What, &[u8]), ReadError>
-    ensures { Gives (λ x. (x.0, x.1.now)) result (spec.lapse_row.read bytes.now) }
+    ensures { Gives (λ x. (x.0, x.1.now)) result ((spec.what_of spec.lapse_kind).read bytes.now) }
 {
     let (doc, rest) = read_u32(bytes)?;
     let (post, rest) = read_u32(rest)?;
@@ -172,24 +169,32 @@ fn read_lapse(bytes: &[u8]) -> Result<(What, &[u8]), ReadError>
 }
 
 fn read_closing(bytes: &[u8]) -> Result<(What, &[u8]), ReadError>
-    ensures { Gives (λ x. (x.0, x.1.now)) result (spec.closing_row.read bytes.now) }
+    ensures { Gives (λ x. (x.0, x.1.now)) result ((spec.what_of spec.closing_kind).read bytes.now) }
 {
     let (nav, rest) = read_u32(bytes)?;
     Ok((What::Closing { nav }, rest))
 }
 
 fn read_gone(bytes: &[u8]) -> Result<(What, &[u8]), ReadError>
-    ensures { Gives (λ x. (x.0, x.1.now)) result (spec.gone_row.read bytes.now) }
+    ensures { Gives (λ x. (x.0, x.1.now)) result ((spec.what_of spec.gone_kind).read bytes.now) }
 {
     let (nav, rest) = read_u32(bytes)?;
     Ok((What::Gone { nav }, rest))
 }
 
 fn read_lost(bytes: &[u8]) -> Result<(What, &[u8]), ReadError>
-    ensures { Gives (λ x. (x.0, x.1.now)) result (spec.lost_row.read bytes.now) }
+    ensures { Gives (λ x. (x.0, x.1.now)) result ((spec.what_of spec.lost_kind).read bytes.now) }
 {
     let (renderer, rest) = read_u16(bytes)?;
     Ok((What::Lost { renderer }, rest))
+}
+
+fn read_domain(alloc: Global, bytes: &[u8]) -> Result<(What, &[u8]), ReadError>
+    ensures { Gives (λ x. (x.0, x.1.now)) result ((spec.what_of spec.domain_kind).read bytes.now) }
+{
+    let (doc, rest) = read_u32(bytes)?;
+    let (domain, rest) = read_any_host(alloc, rest)?;
+    Ok((What::Domain { doc, domain }, rest))
 }
 
 /// What happened, by the tag that stands before.
@@ -218,6 +223,7 @@ fn read_what<'a>(
         14 => read_lost(bytes),
         15 => Ok((What::Sync, bytes)),
         16 => Ok((What::Hidden, bytes)),
+        17 => read_domain(alloc, bytes),
         _ => Err(fault_here(Flaw::Range, bytes)),
     }
 }
@@ -225,10 +231,10 @@ fn read_what<'a>(
 fn is_what_tag(tag: u8) -> bool
     ensures { result ≡ spec.is_what_tag tag }
 {
-    1 <= tag && tag <= 16
+    1 <= tag && tag <= 17
 }
 
-#[tactic(auto, unfolding(crate::specs::Entries::entry))]
+#[tactic(auto, unfolding(frame_grammar::specs::Entries::entry))]
 fn read_entry<'a>(
     alloc: Global,
     last: &mut LastOrigin,
@@ -254,8 +260,8 @@ pub(crate) fn read_entries(
 ) -> Result<(Vec<Entry>, &[u8]), ReadError>
     ensures { Gives (λ x. (x.0.items, x.1.now)) result (items_at spec.entry.read count bytes.now) }
 {
-    // Room for as many as so many bytes mostly spell, and never for more than a log has.
-    let room = (count as usize).min(bytes.len() / 16).min(MOST_ENTRIES);
+    // Room for as many as so many bytes mostly spell.
+    let room = (count as usize).min(bytes.len() / 16);
     let mut entries = Vec::with_capacity(alloc, room)?;
     let mut last = LastOrigin::new(alloc);
     let mut rest = bytes;

@@ -1,11 +1,11 @@
 ghost use Rattle.std.specs.Prelude.{◌≡◌, ◌++◌, OnOk};
 ghost use Rattle.std.specs.List.{flat_map};
-ghost use Rattle.link_wire.specs.Entries as spec;
+ghost use Rattle.frame_grammar.specs.Entries as spec;
 
 use crate::parts::{put_cause, put_load, put_optional_load, put_target};
 use link_fields::{
-    put_data, put_flags, put_optional_u16, put_optional_u32, put_origin, put_text, put_u8, put_u16,
-    put_u32, put_url,
+    put_data, put_flags, put_host, put_optional_u16, put_optional_u32, put_origin, put_text,
+    put_u8, put_u16, put_u32, put_url,
 };
 use std::alloc::AllocError;
 use tree_log::{Entry, What};
@@ -30,6 +30,7 @@ fn what_tag(what: &What) -> u8
         What::Lost { .. } => 14,
         What::Sync => 15,
         What::Hidden => 16,
+        What::Domain { .. } => 17,
     }
 }
 
@@ -128,10 +129,14 @@ fn put_what(out: &mut Vec<u8>, what: &What) -> Result<(), AllocError>
         What::Lost { renderer } => { put_u16(out, *renderer) }
         What::Sync => Ok(()),
         What::Hidden => Ok(()),
+        What::Domain { doc, domain } => {
+            put_u32(out, *doc)?;
+            put_host(out, domain)
+        }
     }
 }
 
-#[tactic(auto, unfolding(crate::specs::Entries::entry), using(crate::proofs::EntryLaws::what_is))]
+#[tactic(auto, unfolding(frame_grammar::specs::Entries::entry), using(crate::proofs::EntryLaws::what_is))]
 fn put_entry(out: &mut Vec<u8>, entry: &Entry) -> Result<(), AllocError>
     ensures { OnOk result (out.new.items ≡ out.old.items ++ spec.entry.spell entry.now) }
 {

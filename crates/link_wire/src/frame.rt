@@ -1,11 +1,18 @@
 ghost use Rattle.std.specs.Prelude.{◌≡◌, ◌≤◌, ◌<◌, ◌+◌, ◌++◌, length, drop, IfOk, OnOk};
 ghost use Rattle.link_fields.specs.Basic.{u32};
+ghost use Rattle.frame_grammar.specs.Cut.{most_body};
 ghost use Rattle.link_wire.specs.Bad.{Reads};
 ghost use Rattle.link_wire.specs.Frames as spec;
 
 use crate::bad::{Bad, DecodeError, bad_at};
 use agent_terms::Why;
 use std::alloc::{AllocError, Global};
+
+// The first byte of each frame.
+const VERSION: u8 = 2;
+
+// How many bytes a body has at most.
+const MOST_BODY: u32 = 65536;
 
 /// What a frame is from: a renderer sends requests, and the coordinator replies.
 #[derive(Clone, Copy, Debug, PartialEq, Eq)]
@@ -20,19 +27,8 @@ impl Side {
         ensures { result ≡ spec.is_kind self kind }
     {
         match self {
-            Side::Request => 1 <= kind && kind <= 11,
+            Side::Request => 1 <= kind && kind <= 13,
             Side::Reply => 65 <= kind && kind <= 74,
-        }
-    }
-
-    // How many bytes a body may have.
-    fn limit(self) -> u32
-        ensures value { result ≡ spec.limit self }
-        ensures small { result ≤ 268435456 }
-    {
-        match self {
-            Side::Request => 65536,
-            Side::Reply => 268435456,
         }
     }
 }
@@ -40,10 +36,10 @@ impl Side {
 /// The kind of a frame and the length of its body. The body may not be there.
 #[tactic(auto, unfolding(crate::specs::Frames::head_at))]
 pub(crate) fn read_head(side: Side, bytes: &[u8]) -> Result<(u8, u32), Bad>
-    ensures head { result ≡ spec.head_at (spec.is_kind side) (spec.limit side) bytes.now }
-    ensures small { IfOk result (λ x. x.1 ≤ 268435456) }
+    ensures head { result ≡ spec.head_at (spec.is_kind side) most_body bytes.now }
+    ensures small { IfOk result (λ x. x.1 ≤ most_body) }
 {
-    if !bytes.is_empty() && bytes[0] != 1 {
+    if !bytes.is_empty() && bytes[0] != VERSION {
         return Err(Bad {
             place: 0,
             why: Why::Version,
@@ -62,7 +58,7 @@ pub(crate) fn read_head(side: Side, bytes: &[u8]) -> Result<(u8, u32), Bad>
         });
     }
     let len = u32::from_be_bytes([bytes[2], bytes[3], bytes[4], bytes[5]]);
-    if len > side.limit() {
+    if len > MOST_BODY {
         return Err(Bad {
             place: 2,
             why: Why::Length,
@@ -72,7 +68,7 @@ pub(crate) fn read_head(side: Side, bytes: &[u8]) -> Result<(u8, u32), Bad>
 }
 
 fn read_body(len: u32, bytes: &[u8]) -> Result<&[u8], DecodeError>
-    requires { len ≤ 268435456 }
+    requires { len ≤ most_body }
     ensures body { Reads (λ x. x.now) result (spec.body_at len bytes.now) }
     ensures whole { IfOk result (λ x. length bytes.now ≡ 6 + len) }
 {
@@ -88,8 +84,8 @@ fn read_body(len: u32, bytes: &[u8]) -> Result<&[u8], DecodeError>
 
 /// The kind of the frame that all the bytes are, and its body.
 pub(crate) fn read_frame(side: Side, bytes: &[u8]) -> Result<(u8, &[u8]), DecodeError>
-    ensures frame { Reads (λ x. (x.0, x.1.now)) result (spec.split_at (spec.is_kind side) (spec.limit side) bytes.now) }
-    ensures short { IfOk result (λ x. length bytes.now < 300000000) }
+    ensures frame { Reads (λ x. (x.0, x.1.now)) result (spec.split_at (spec.is_kind side) most_body bytes.now) }
+    ensures short { IfOk result (λ x. length bytes.now ≤ 6 + most_body) }
 {
     let (kind, len) = read_head(side, bytes)?;
     let body = read_body(len, bytes)?;
@@ -113,7 +109,7 @@ pub(crate) fn make_frame(alloc: Global, kind: u8, body: &[u8]) -> Result<Vec<u8>
     ensures { IfOk result (λ v. v.items ≡ spec.frame kind body.now) }
 {
     let mut out = Vec::with_capacity(alloc, 6)?;
-    out.push(1)?;
+    out.push(VERSION)?;
     out.push(kind)?;
     put_len(&mut out, body.len())?;
     out.extend_from_slice(body)?;

@@ -1,7 +1,7 @@
 ghost use Rattle.std.specs.Prelude.{◌≡◌, ◌++◌, [], List, ℕ};
 ghost use Rattle.agent_terms.specs.declared.request.Request.{Request};
 ghost use Rattle.link_wire.specs.Feeding.{Held};
-ghost use Rattle.link_wire.specs.ReplyParts.{ReplyParts};
+ghost use Rattle.frame_grammar.specs.Cut.{ReplyParts};
 ghost use Rattle.link_wire.specs.Replies.{IsReply, reply_frame};
 ghost use Rattle.link_wire.specs.Requests.{IsRequest, request_frame};
 ghost use Rattle.link_wire.specs.Streams.{Feed, AreFeeds, bytes_of, frames_of, nothing_held, split_stream};

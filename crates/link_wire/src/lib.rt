@@ -1,7 +1,9 @@
 //! Frames: what renderers and the coordinator send to each other, as bytes.
 //!
 //! A frame is a version, a kind, the length of the body in four bytes, and the body: the fields of a request or of a
-//! [`Reply`], by its kind. The definitions `Requests`, `Entries` and `Replies` in `specs/` list the fields of each kind.
+//! [`Reply`], by its kind. `Requests` in `specs/`, and `Entries` and `Outcomes` in those of `frame_grammar`, list the fields
+//! of each kind. A reply that hasn't room for all entries that there are to tell says so, and the request More asks for
+//! the rest.
 //!
 //! A value in range has one spelling, which [`encode_request`] and [`encode_reply`] give; no spelling begins another.
 //! [`decode_request`] and [`decode_reply`] take just these spellings, and say of other bytes where and why they are

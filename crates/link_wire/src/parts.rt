@@ -1,7 +1,7 @@
 ghost use Rattle.std.specs.Prelude.{◌≡◌, ◌++◌, OnOk};
 ghost use Rattle.link_fields.specs.Field.{Gives};
 ghost use Rattle.link_fields.specs.Basic.{optional};
-ghost use Rattle.link_wire.specs.Parts as spec;
+ghost use Rattle.frame_grammar.specs.Parts as spec;
 
 use link_fields::{
     Flaw, LastOrigin, ReadError, fault_here, put_origin, put_u8, put_u16, put_u32, put_url,

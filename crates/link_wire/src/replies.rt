@@ -1,6 +1,8 @@
 ghost use Rattle.std.specs.Prelude.{◌≡◌, ◌++◌, IfOk, OnOk, Ok};
 ghost use Rattle.link_wire.specs.Bad.{Decodes};
-ghost use Rattle.link_wire.specs.ReplyParts.{ReplyParts};
+ghost use Rattle.frame_grammar.specs.Cut.{ReplyParts};
+ghost use Rattle.frame_grammar.specs.Cut.{reply_body};
+ghost use Rattle.frame_grammar.specs.Outcomes as outcomes;
 ghost use Rattle.link_wire.specs.Replies as spec;
 ghost use Rattle.link_wire.specs.Replies.{IsReply, reply_frame};
 
@@ -10,11 +12,11 @@ use crate::frame::{Side, make_frame, put_len, read_frame};
 use crate::reply::Reply;
 use crate::reply_rows::{put_outcome, read_reply};
 use agent_terms::{ReplyOutcome, Why};
-use link_fields::put_u32;
+use link_fields::{put_bool, put_u32};
 use std::alloc::{AllocError, Global};
 
 fn outcome_kind(outcome: &ReplyOutcome) -> u8
-    ensures { result ≡ spec.outcome_kind outcome.now }
+    ensures { result ≡ outcomes.outcome_kind outcome.now }
 {
     match outcome {
         ReplyOutcome::Done => 65,
@@ -30,11 +32,13 @@ fn outcome_kind(outcome: &ReplyOutcome) -> u8
     }
 }
 
+#[tactic(auto, unfolding(frame_grammar::specs::Cut::reply_body))]
 fn put_reply(out: &mut Vec<u8>, reply: &Reply) -> Result<(), AllocError>
-    ensures { OnOk result (out.new.items ≡ out.old.items ++ spec.reply_body reply.now) }
+    ensures { OnOk result (out.new.items ≡ out.old.items ++ reply_body reply.now) }
 {
     put_outcome(out, &reply.outcome)?;
     put_u32(out, reply.from)?;
+    put_bool(out, reply.more)?;
     put_len(out, reply.news.len())?;
     put_entries(out, reply.news.as_slice())
 }

@@ -13,14 +13,14 @@ use origin_core::Flags;
 use std::alloc::{AllocError, Global};
 
 fn read_sync(bytes: &[u8]) -> Result<(Request, &[u8]), ReadError>
-    ensures { Gives (λ x. (x.0, x.1.now)) result (spec.sync_row.read bytes.now) }
+    ensures { Gives (λ x. (x.0, x.1.now)) result ((spec.request_of spec.sync_kind).read bytes.now) }
 {
     let (asker, rest) = read_u32(bytes)?;
     Ok((Request::Sync { asker }, rest))
 }
 
 fn read_frame(alloc: Global, bytes: &[u8]) -> Result<(Request, &[u8]), ReadError>
-    ensures { Gives (λ x. (x.0, x.1.now)) result (spec.frame_row.read bytes.now) }
+    ensures { Gives (λ x. (x.0, x.1.now)) result ((spec.request_of spec.frame_kind).read bytes.now) }
 {
     let (asker, rest) = read_u32(bytes)?;
     let (name, rest) = read_text(alloc, rest)?;
@@ -38,7 +38,7 @@ fn read_frame(alloc: Global, bytes: &[u8]) -> Result<(Request, &[u8]), ReadError
 }
 
 fn read_drop(bytes: &[u8]) -> Result<(Request, &[u8]), ReadError>
-    ensures { Gives (λ x. (x.0, x.1.now)) result (spec.drop_row.read bytes.now) }
+    ensures { Gives (λ x. (x.0, x.1.now)) result ((spec.request_of spec.drop_kind).read bytes.now) }
 {
     let (asker, rest) = read_u32(bytes)?;
     let (nav, rest) = read_u32(rest)?;
@@ -46,7 +46,7 @@ fn read_drop(bytes: &[u8]) -> Result<(Request, &[u8]), ReadError>
 }
 
 fn read_open(alloc: Global, bytes: &[u8]) -> Result<(Request, &[u8]), ReadError>
-    ensures { Gives (λ x. (x.0, x.1.now)) result (spec.open_row.read bytes.now) }
+    ensures { Gives (λ x. (x.0, x.1.now)) result ((spec.request_of spec.open_kind).read bytes.now) }
 {
     let (asker, rest) = read_u32(bytes)?;
     let (url, rest) = read_optional_url(alloc, rest)?;
@@ -66,7 +66,7 @@ fn read_open(alloc: Global, bytes: &[u8]) -> Result<(Request, &[u8]), ReadError>
 }
 
 fn read_link(alloc: Global, bytes: &[u8]) -> Result<(Request, &[u8]), ReadError>
-    ensures { Gives (λ x. (x.0, x.1.now)) result (spec.link_row.read bytes.now) }
+    ensures { Gives (λ x. (x.0, x.1.now)) result ((spec.request_of spec.link_kind).read bytes.now) }
 {
     let (asker, rest) = read_u32(bytes)?;
     let (url, rest) = read_url(alloc, rest)?;
@@ -86,7 +86,7 @@ fn read_link(alloc: Global, bytes: &[u8]) -> Result<(Request, &[u8]), ReadError>
 }
 
 fn read_go(alloc: Global, bytes: &[u8]) -> Result<(Request, &[u8]), ReadError>
-    ensures { Gives (λ x. (x.0, x.1.now)) result (spec.go_row.read bytes.now) }
+    ensures { Gives (λ x. (x.0, x.1.now)) result ((spec.request_of spec.go_kind).read bytes.now) }
 {
     let (asker, rest) = read_u32(bytes)?;
     let (doc, rest) = read_u32(rest)?;
@@ -104,7 +104,7 @@ fn read_go(alloc: Global, bytes: &[u8]) -> Result<(Request, &[u8]), ReadError>
 }
 
 fn read_name(alloc: Global, bytes: &[u8]) -> Result<(Request, &[u8]), ReadError>
-    ensures { Gives (λ x. (x.0, x.1.now)) result (spec.name_row.read bytes.now) }
+    ensures { Gives (λ x. (x.0, x.1.now)) result ((spec.request_of spec.name_kind).read bytes.now) }
 {
     let (asker, rest) = read_u32(bytes)?;
     let (doc, rest) = read_u32(rest)?;
@@ -113,7 +113,7 @@ fn read_name(alloc: Global, bytes: &[u8]) -> Result<(Request, &[u8]), ReadError>
 }
 
 fn read_disown(bytes: &[u8]) -> Result<(Request, &[u8]), ReadError>
-    ensures { Gives (λ x. (x.0, x.1.now)) result (spec.disown_row.read bytes.now) }
+    ensures { Gives (λ x. (x.0, x.1.now)) result ((spec.request_of spec.disown_kind).read bytes.now) }
 {
     let (asker, rest) = read_u32(bytes)?;
     let (doc, rest) = read_u32(rest)?;
@@ -121,7 +121,7 @@ fn read_disown(bytes: &[u8]) -> Result<(Request, &[u8]), ReadError>
 }
 
 fn read_close(bytes: &[u8]) -> Result<(Request, &[u8]), ReadError>
-    ensures { Gives (λ x. (x.0, x.1.now)) result (spec.close_row.read bytes.now) }
+    ensures { Gives (λ x. (x.0, x.1.now)) result ((spec.request_of spec.close_kind).read bytes.now) }
 {
     let (asker, rest) = read_u32(bytes)?;
     let (doc, rest) = read_u32(rest)?;
@@ -130,7 +130,7 @@ fn read_close(bytes: &[u8]) -> Result<(Request, &[u8]), ReadError>
 }
 
 fn read_post(alloc: Global, bytes: &[u8]) -> Result<(Request, &[u8]), ReadError>
-    ensures { Gives (λ x. (x.0, x.1.now)) result (spec.post_row.read bytes.now) }
+    ensures { Gives (λ x. (x.0, x.1.now)) result ((spec.request_of spec.post_kind).read bytes.now) }
 {
     let (asker, rest) = read_u32(bytes)?;
     let (doc, rest) = read_u32(rest)?;
@@ -146,6 +146,14 @@ fn read_post(alloc: Global, bytes: &[u8]) -> Result<(Request, &[u8]), ReadError>
         },
         rest,
     ))
+}
+
+fn read_domain(alloc: Global, bytes: &[u8]) -> Result<(Request, &[u8]), ReadError>
+    ensures { Gives (λ x. (x.0, x.1.now)) result ((spec.request_of spec.domain_kind).read bytes.now) }
+{
+    let (asker, rest) = read_u32(bytes)?;
+    let (value, rest) = read_text(alloc, rest)?;
+    Ok((Request::Domain { asker, value }, rest))
 }
 
 /// The request of a kind that the front of a body spells, and the bytes behind it.
@@ -168,6 +176,8 @@ pub(crate) fn read_request(
         9 => read_disown(bytes),
         10 => read_close(bytes),
         11 => read_post(alloc, bytes),
+        12 => read_domain(alloc, bytes),
+        13 => Ok((Request::More, bytes)),
         _ => Err(fault_here(Flaw::Range, bytes)),
     }
 }
@@ -256,5 +266,10 @@ pub(crate) fn put_request(out: &mut Vec<u8>, request: &Request) -> Result<(), Al
             put_target(out, target)?;
             put_data(out, body)
         }
+        Request::Domain { asker, value } => {
+            put_u32(out, *asker)?;
+            put_text(out, value)
+        }
+        Request::More => Ok(()),
     }
 }

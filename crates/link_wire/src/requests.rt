@@ -25,6 +25,8 @@ fn kind_of(request: &Request) -> u8
         Request::Disown { .. } => 9,
         Request::Close { .. } => 10,
         Request::Post { .. } => 11,
+        Request::Domain { .. } => 12,
+        Request::More => 13,
     }
 }
 

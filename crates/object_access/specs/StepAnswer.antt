@@ -128,6 +128,7 @@ perform s d (Step.Frame text name sandbox to) = frame_step s d (unwrap_or name [
 perform s d (Step.Drop index) = drop_step d (slice_get (children_of s.tree d) index)
 perform s d (Step.Open text target noopener user to) = open_step s d target noopener user (if_any text)
 perform s d (Step.Link text target rel user) = link_at d target (gives_no_opener rel target) user (read_at s d text)
+perform s d (Step.Domain value) = Ask (Request.Domain d value)
 
 -- Properties afterwards: an act on the object in a register changes that one's
 abbrev pub changed_at : Sight → ℕ → List ℕ → Key → Act → Object → Store

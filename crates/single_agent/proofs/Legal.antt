@@ -1,6 +1,6 @@
 -- A legal log and legal records stay so by one more act, whatever it is, and by a loss.
 use Rattle.std.proofs.Common.{◌≡◌, ◌≢◌, ℕ, ◌+◌, ◌<◌, ◌≤◌, List, [], ◌∷◌, ◌++◌, length, Option, Some, None, Bool, true, false, refl, sym, ap, subst, ◌∙◌, arith, inl, inr, length-append, eq-eqb}
-use Rattle.std.specs.Prelude.{◌⊎◌, ◌||◌, if◌then◌else◌}
+use Rattle.std.specs.Prelude.{◌⊎◌, ◌||◌, nat_le, if◌then◌else◌}
 use Rattle.std.specs.Option.{option_map}
 use Rattle.std.proofs.lemmas.Bool.{ne_eqb}
 use Rattle.std.proofs.lemmas.List.Elements.{filter-append}
@@ -9,7 +9,7 @@ use Rattle.tree_log.specs.Log.{prefix, is_by}
 use Rattle.tree_log.proofs.Places.{prefix_more, prefix_whole}
 use Rattle.agent_terms.specs.declared.session.Session.{Session}
 use Rattle.agent_terms.specs.declared.act.Act.{Act}
-use Rattle.agent_terms.specs.declared.act.Act.TheVariants.{Step, LostTask}
+use Rattle.agent_terms.specs.declared.act.Act.TheVariants.{Step, Task, LostTask}
 use Rattle.agent_terms.specs.declared.act.Answer.{Answer}
 use Rattle.agent_terms.specs.declared.act.Answer.TheVariants as answer
 use Rattle.agent_terms.specs.declared.act.Point.{Point}
@@ -32,7 +32,8 @@ use Rattle.agent_terms.specs.declared.request.Request.TheVariants.{Next}
 use Rattle.coordinator_rules.specs.Decision.{Rules, rules_of, Decision, task_decision, exchange}
 use Rattle.single_agent.specs.LegalLog.{IsLegalLog, Exchanged, Gave_up, lost_entry}
 use Rattle.single_agent.proofs.Made.{AreBy, exchange_by, next_gives}
-use Rattle.single_agent.specs.LegalRecord.{StandsIn, LegalActs, is_loss, is_lost_on, about, and_lost, IsLegalRecord}
+use Rattle.single_agent.specs.Heard.{heard_at, MayHear}
+use Rattle.single_agent.specs.LegalRecord.{IsMadeOn, StandsIn, LegalActs, is_loss, is_lost_on, about, and_lost, IsLegalRecord}
 use Rattle.single_agent.proofs.Grown.{Within, newest_within}
 
 -- WHOSE ENTRIES AN ACT MAKES
@@ -168,6 +169,41 @@ pub log_lost : (s : Session) (r : ℕ) (log : List Entry) (q : Option Request) (
 log_lost s r log q true there legal = Gave_up (exchanged (rules_of s) log r q ++ log) r (log_exchanged s r log q there legal) there
 log_lost s r log q false there legal = Gave_up log r legal there
 
+-- LOSSES, AND THE EXACT LENGTH
+
+never_loss : (r : ℕ) (e : Entry) → e.by ≡ Some r → is_loss r e ≡ false
+never_loss r e by = rw by refl
+
+own_no_loss : (r : ℕ) (own log : List Entry) → AreBy r own → is_lost_on r log ≡ false → is_lost_on r (own ++ log) ≡ false
+unfolding is_lost_on
+own_no_loss r [] log by h = h
+own_no_loss r (e ∷ own) log by h = rw (never_loss r e by.0) (own_no_loss r own log by.1 h)
+
+second_false : (a b : Bool) → (a || b) ≡ false → b ≡ false
+second_false true b h = absurd cc
+second_false false b h = h
+
+none_before : (r k : ℕ) (log : List Entry) → is_lost_on r log ≡ false → is_lost_on r (prefix k log) ≡ false
+unfolding is_lost_on prefix
+none_before r k [] h = h
+none_before r k (e ∷ older) h = by_length (nat_le k (length older)) h (none_before r k older (second_false (is_loss r e) (is_lost_on r older) h)) where
+  by_length : (b : Bool) → is_lost_on r (e ∷ older) ≡ false → is_lost_on r (prefix k older) ≡ false → is_lost_on r (if b then prefix k older else e ∷ older) ≡ false
+  by_length true whole rest = rest
+  by_length false whole rest = whole
+
+own_length : (act : Act) → act ≡ heard_at (length_of act) act
+own_length (Step at doc point op answer) = refl
+own_length (Task at kind place) = refl
+own_length (LostTask at) = refl
+
+hears_exactly : (rules : Rules) (r : ℕ) (log : List Entry) (from : ℕ) (q : Option Request) (at : ℕ) → MayHear rules r log from q at at
+hears_exactly rules r log from None at = refl
+hears_exactly rules r log from (Some q) at = (omega arith, λ once. refl)
+
+pub made_exactly : (s : Session) (r : ℕ) (log : List Entry) (older : List Act) (act : Act) (own : List Entry) → IsActOn s r log older act own → IsMadeOn s r log older act own
+made_exactly s r log older act own h =
+    record { exact = act; is = h; same = own_length act; hears = hears_exactly (rules_of s) r log (newest_length older) (move_request (next_move s log older)) (length_of act) }
+
 -- A RECORD
 
 longer : (more log : List Entry) → length (more ++ log) ≡ length more + length log
@@ -181,11 +217,12 @@ stands_grown s r more log older act own h =
       before = h.before;
       later = h.later;
       not_lost = ap (is_lost_on r) same ∙ h.not_lost;
-      made = subst (λ (l : List Entry). IsActOn s r l older act own ⊎ IsLostOn s r l older act own) (sym same) h.made;
+      made = subst (λ (l : List Entry). IsMadeOn s r l older act own ⊎ IsLostOn s r l older act own) (sym same) h.made;
       within = omega (arith, h.within);
       follow = prefix_more more log (h.before + length own) h.within ∙ h.follow ∙ ap (λ (l : List Entry). own ++ l) (sym same);
       never_falls = h.never_falls;
       no_longer = omega (arith, h.no_longer);
+      not_lost_then = ap (is_lost_on r) (prefix_more more log (length_of act) h.no_longer) ∙ h.not_lost_then;
     }
 
 pub acts_grown : (s : Session) (r : ℕ) (more log : List Entry) (acts : List Act) (mine : List Entry) → LegalActs s r log acts mine → LegalActs s r (more ++ log) acts mine
@@ -197,20 +234,21 @@ acts_within s r log [] mine h = tt
 acts_within s r log (a ∷ older) mine h = (h.2.no_longer, acts_within s r log older h.1 h.3)
 
 -- an act at the end of the log stands in the log with its entries
-stands_new : (s : Session) (r : ℕ) (log : List Entry) (older : List Act) (act : Act) (own : List Entry) → is_lost_on r log ≡ false → newest_length older ≤ length log → IsActOn s r log older act own ⊎ IsLostOn s r log older act own
+stands_new : (s : Session) (r : ℕ) (log : List Entry) (older : List Act) (act : Act) (own : List Entry) → is_lost_on r log ≡ false → is_lost_on r (own ++ log) ≡ false → newest_length older ≤ length log → IsMadeOn s r log older act own ⊎ IsLostOn s r log older act own
     → newest_length older ≤ length_of act → length_of act ≤ length own + length log → StandsIn s r (own ++ log) older act own
-stands_new s r log older act own goes within h first last =
+stands_new s r log older act own goes goes_then within h first last =
     let whole = longer own log in
     let same : prefix (length log) (own ++ log) ≡ log = prefix_more own log (length log) (omega arith) ∙ prefix_whole log (length log) (omega arith) in
     record {
       before = length log;
       later = within;
       not_lost = ap (is_lost_on r) same ∙ goes;
-      made = subst (λ (l : List Entry). IsActOn s r l older act own ⊎ IsLostOn s r l older act own) (sym same) h;
+      made = subst (λ (l : List Entry). IsMadeOn s r l older act own ⊎ IsLostOn s r l older act own) (sym same) h;
       within = omega arith;
       follow = prefix_whole (own ++ log) (length log + length own) (omega arith) ∙ ap (λ (l : List Entry). own ++ l) (sym same);
       never_falls = first;
       no_longer = omega arith;
+      not_lost_then = none_before r (length_of act) (own ++ log) goes_then;
     }
 
 -- what the log says of a renderer that goes on
@@ -222,9 +260,6 @@ goes_on_about r log acts mine goes is = is ∙ ap (λ (b : Bool). if b then lost
 rest_by : (r : ℕ) (e : Entry) (rest : List Entry) (b : Bool) → AreBy r (if b then e ∷ rest else rest) → AreBy r rest
 rest_by r e rest true h = h.1
 rest_by r e rest false h = h
-
-never_loss : (r : ℕ) (e : Entry) → e.by ≡ Some r → is_loss r e ≡ false
-never_loss r e by = rw by refl
 
 head_stays : (r : ℕ) (e : Entry) (rest : List Entry) (mine loss : Bool) → is_loss r e ≡ loss → AreBy r (if mine || loss then e ∷ rest else rest) → loss ≡ false
 head_stays r e rest mine false is h = refl
@@ -243,8 +278,8 @@ both_by : (r : ℕ) (xs ys : List Entry) → AreBy r xs → AreBy r ys → AreBy
 both_by r [] ys h k = k
 both_by r (x ∷ xs) ys h k = (h.0, both_by r xs ys h.1 k)
 
-made_by : (s : Session) (r : ℕ) (log : List Entry) (older : List Act) (act : Act) (own : List Entry) → IsActOn s r log older act own ⊎ IsLostOn s r log older act own → AreBy r own
-made_by s r log older act own (inl h) = own_is (rules_of s) r log older (next_move s log older) act own h
+made_by : (s : Session) (r : ℕ) (log : List Entry) (older : List Act) (act : Act) (own : List Entry) → IsMadeOn s r log older act own ⊎ IsLostOn s r log older act own → AreBy r own
+made_by s r log older act own (inl h) = own_is (rules_of s) r log older (next_move s log older) h.exact own h.is
 made_by s r log older act own (inr h) = lost_is (rules_of s) log r (move_request (next_move s log older)) own h.served
 
 -- the entries of its acts are its own
@@ -262,9 +297,10 @@ pub record_acted : (s : Session) (r : ℕ) (log : List Entry) (older : List Act)
 record_acted s r log older act own legal h =
     let within = newest_within (length log) older (acts_within s r log older legal.0 legal.1) in
     let lengths = act_length (rules_of s) r log older (next_move s log older) act own h within in
+    let goes = not_lost_yet s r log older legal (acted_goes_on s r log older act own h) in
     let before = goes_on_about r log older legal.0 (acted_goes_on s r log older act own h) legal.2 in (
       own ++ legal.0,
-      (own, legal.0, stands_new s r log older act own (not_lost_yet s r log older legal (acted_goes_on s r log older act own h)) within (inl h) lengths.0 lengths.1, acts_grown s r own log older legal.0 legal.1, refl),
+      (own, legal.0, stands_new s r log older act own goes (own_no_loss r own log (own_is (rules_of s) r log older (next_move s log older) act own h) goes) within (inl (made_exactly s r log older act own h)) lengths.0 lengths.1, acts_grown s r own log older legal.0 legal.1, refl),
       about_append r own log ∙ ap (λ (l : List Entry). l ++ about r log) (all_about r own (own_is (rules_of s) r log older (next_move s log older) act own h))
           ∙ ap (λ (l : List Entry). own ++ l) before
           ∙ ap (λ (b : Bool). if b then lost_entry r ∷ own ++ legal.0 else own ++ legal.0) (sym (act_kept (rules_of s) r log older (next_move s log older) act own h)),
@@ -276,7 +312,9 @@ record_lost s r log older act own legal h =
     let within = newest_within (length log) older (acts_within s r log older legal.0 legal.1) in
     let lengths = lost_length (newest_length older) h.heard (next_move s log older) act h.lost h.later in
     let before = goes_on_about r log older legal.0 (lost_goes_on s r log older act own h) legal.2 in
-    let stands : StandsIn s r (own ++ log) older act own = stands_new s r log older act own (not_lost_yet s r log older legal (lost_goes_on s r log older act own h)) within (inr h) lengths.0 (omega (arith, h.within, lengths.1)) in (
+    let goes = not_lost_yet s r log older legal (lost_goes_on s r log older act own h) in
+    let alive = own_no_loss r own log (lost_is (rules_of s) log r (move_request (next_move s log older)) own h.served) goes in
+    let stands : StandsIn s r (own ++ log) older act own = stands_new s r log older act own goes alive within (inr h) lengths.0 (omega (arith, h.within, lengths.1)) in (
       own ++ legal.0,
       (
         own,

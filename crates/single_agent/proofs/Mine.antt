@@ -135,6 +135,7 @@ yours_of r t d m = rw (m.been) (eq-eqb (home_of t d) r m.home)
 
 abbrev pub IsNoTask : Request → Type 0
 IsNoTask ask.Next = ⊥
+IsNoTask ask.More = ⊥
 IsNoTask q = Unit {0}
 
 if_true : {A : Type 0} (b : Bool) (x y : A) → b ≡ true → (if b then x else y) ≡ x
@@ -145,4 +146,5 @@ if_true false x y h = absurd cc
 pub exchange_asked : (rules : Rules) (log : List Entry) (r : ℕ) (q : Request) → IsNoTask q → is (home_if_active (tree_of log) (asker_of q)) r ≡ true → exchange rules log r q ≡ asked_decision rules log r q
 unfolding exchange
 exchange_asked rules log r ask.Next n h = absurd n
+exchange_asked rules log r ask.More n h = absurd n
 exchange_asked rules log r q n h = if_true (is (home_if_active (tree_of log) (asker_of q)) r) (asked_decision rules log r q) _ h

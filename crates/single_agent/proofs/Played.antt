@@ -52,7 +52,7 @@ served_or_not : (rules : Rules) (log : List Entry) (r : ℕ) (m : Move) (b : Boo
 served_or_not rules log r m true = inr refl
 served_or_not rules log r m false = inl refl
 
-own_lost : (s : Session) (r : ℕ) (log : List Entry) (acts : List Act) (told : ℕ) (act : Option Act) (own : List Entry) → is_losing s r log acts ≡ true → IsBetween (newest_length acts) told (length log) → HasHeard r log acts told → IsLegalRecord s r log acts
+own_lost : (s : Session) (r : ℕ) (log : List Entry) (acts : List Act) (told : ℕ) (act : Option Act) (own : List Entry) → is_losing s r log acts ≡ true → IsBetween (newest_length acts) told (length log) → HasHeard (rules_of s) r log acts told → IsLegalRecord s r log acts
     → Plays true s r log acts told act own → IsLegalRecord s r (own ++ log) (with_act act acts)
 own_lost s r log acts told None own losing b hears legal h = absurd (no_lost_act (newest_length acts) told (next_move s log acts) (lost_exchanges s r log acts losing) h.0)
 own_lost s r log acts told (Some act) own losing b hears legal h =
@@ -61,7 +61,7 @@ own_lost s r log acts told (Some act) own losing b hears legal h =
     (record { heard = told; later = b.low_is; within = b.high_is; hears = hears; lost = sym h.0; served = served_or_not (rules_of s) log r (next_move s log acts) (is_served (lose_of s r) && not (is_full log)) }))
 
 own_played : (lost : Bool) (s : Session) (r : ℕ) (log : List Entry) (acts : List Act) (told : ℕ) (act : Option Act) (own : List Entry) → is_losing s r log acts ≡ lost → IsBetween (newest_length acts) told (length log)
-    → HasHeard r log acts told → IsLegalRecord s r log acts → Plays lost s r log acts told act own → IsLegalRecord s r (own ++ log) (with_act act acts)
+    → HasHeard (rules_of s) r log acts told → IsLegalRecord s r log acts → Plays lost s r log acts told act own → IsLegalRecord s r (own ++ log) (with_act act acts)
 own_played true s r log acts told act own losing b hears legal h = own_lost s r log acts told act own losing b hears legal h
 own_played false s r log acts told None own losing b hears legal h = subst (λ (o : List Entry). IsLegalRecord s r (o ++ log) acts) (sym h.1) legal
 own_played false s r log acts told (Some act) own losing b hears legal h = record_acted s r log acts act own legal h.0

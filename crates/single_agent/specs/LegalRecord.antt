@@ -6,7 +6,10 @@ use Rattle.single_agent.specs.Names.{Session, Act, Entry, What, Lost}
 use Rattle.tree_log.specs.Log.{prefix, is_by}
 use Rattle.single_agent.specs.LegalLog.{lost_entry}
 use Rattle.single_agent.specs.Lengths.{length_of, newest_length, has_stopped}
+use Rattle.coordinator_rules.specs.Decision.{rules_of}
+use Rattle.single_agent.specs.NextMove.{next_move, move_request}
 use Rattle.single_agent.specs.NextAct.{IsActOn}
+use Rattle.single_agent.specs.Heard.{heard_at, MayHear}
 use Rattle.single_agent.specs.LostAct.{IsLostOn}
 
 abbrev pub is_loss_of : ℕ → What → Bool
@@ -21,17 +24,26 @@ is_loss r e = is_none e.by && is_loss_of r e.what
 unfoldable pub is_lost_on : ℕ → List Entry → Bool
 is_lost_on r log = list_any (is_loss r) log
 
+-- on the whole log as it stands, the next act is this one and makes these entries, but that where its reply was cut the renderer
+-- may have heard more by the end of it
+pub record IsMadeOn (s : Session) (r : ℕ) (log : List Entry) (older : List Act) (act : Act) (own : List Entry) : Type 0 where
+  pub exact : Act
+  pub is : IsActOn s r log older exact own
+  pub same : act ≡ heard_at (length_of act) exact
+  pub hears : MayHear (rules_of s) r log (newest_length older) (move_request (next_move s log older)) (length_of exact) (length_of act)
+
 -- the act is the next one on some prefix of the log that holds all that the older acts had heard and no loss of the renderer, or
 -- is lost there; its entries follow that prefix
 pub record StandsIn (s : Session) (r : ℕ) (log : List Entry) (older : List Act) (act : Act) (own : List Entry) : Type 0 where
   pub before : ℕ
   pub later : newest_length older ≤ before
   pub not_lost : is_lost_on r (prefix before log) ≡ false
-  pub made : IsActOn s r (prefix before log) older act own ⊎ IsLostOn s r (prefix before log) older act own
+  pub made : IsMadeOn s r (prefix before log) older act own ⊎ IsLostOn s r (prefix before log) older act own
   pub within : before + length own ≤ length log
   pub follow : prefix (before + length own) log ≡ own ++ prefix before log
   pub never_falls : newest_length older ≤ length_of act
   pub no_longer : length_of act ≤ length log
+  pub not_lost_then : is_lost_on r (prefix (length_of act) log) ≡ false
 
 -- each act stands in the log, and together they made these entries
 abbrev pub LegalActs : Session → ℕ → List Entry → List Act → List Entry → Type 0

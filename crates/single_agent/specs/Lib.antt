@@ -7,6 +7,7 @@ pub mod Shown
 pub mod Sights
 pub mod NextMove
 pub mod NextAct
+pub mod Heard
 pub mod LostAct
 pub mod LegalLog
 pub mod LegalRecord

@@ -16,6 +16,6 @@ pub use Rattle.agent_terms.specs.declared.act.Point.TheVariants.{Script, Handler
 pub use Rattle.agent_terms.specs.declared.act.Move.{Move}
 pub use Rattle.agent_terms.specs.declared.act.Move.TheVariants.{Answers, Asks, Takes, Stays}
 pub use Rattle.agent_terms.specs.declared.outcome.Rule.{Rule}
-pub use Rattle.agent_terms.specs.declared.outcome.Rule.TheVariants.{S1, S2, S3, S4, S5, S6, S7, S8}
+pub use Rattle.agent_terms.specs.declared.outcome.Rule.TheVariants.{S1, S2, S3, S4, S5, S6, S7, S8, S9, S10, S11}
 pub use Rattle.agent_terms.specs.declared.request.Request.{Request}
 pub use Rattle.agent_terms.specs.declared.request.ReplyOutcome.{ReplyOutcome}

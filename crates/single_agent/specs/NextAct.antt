@@ -1,7 +1,7 @@
 -- The act that a renderer's next move comes to on the whole log, and the entries that it makes. Renderers are this project's own.
 use Rattle.std.specs.Prelude.{ℕ, ◌≡◌, ◌⊎◌, ◌+◌, ◌≤◌, List, [], ◌∷◌, length, true, ◌==◌, ◌||◌, Option, Some, None, if◌then◌else◌}
 use Rattle.std.specs.Option.{option_map}
-use Rattle.single_agent.specs.Names.{Value, Session, Act, Answer as AnswerOf, Move, Answers, Asks, Takes, Stays, Rule, S1, S2, S3, S4, S5, S6, S7, S8, ReplyOutcome, Entry, What, Commit, Fire, Lapse, Gone}
+use Rattle.single_agent.specs.Names.{Value, Session, Act, Answer as AnswerOf, Move, Answers, Asks, Takes, Stays, Rule, S1, S2, S3, S4, S5, S6, S7, S8, S9, S10, S11, ReplyOutcome, Entry, What, Commit, Fire, Lapse, Gone}
 use Rattle.agent_terms.specs.declared.step.OpName.{OpName}
 use Rattle.agent_terms.specs.declared.step.OpName.TheVariants as op
 use Rattle.agent_terms.specs.declared.act.Act.TheVariants.{Step as StepAct, Task}
@@ -28,7 +28,8 @@ kind_of _ = kind.Commit
 unfoldable pub rule_of : ℕ → Rule
 rule_of n =
     if n == 1 then S1 else if n == 2 then S2 else if n == 3 then S3 else if n == 4 then S4
-    else if n == 5 then S5 else if n == 6 then S6 else if n == 7 then S7 else S8
+    else if n == 5 then S5 else if n == 6 then S6 else if n == 7 then S7 else if n == 8 then S8
+    else if n == 9 then S9 else if n == 10 then S10 else S11
 
 abbrev pub done_of : OpName → AnswerOf
 done_of op.Set = answer.Outcome (outcome.Truth true)

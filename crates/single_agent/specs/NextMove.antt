@@ -31,6 +31,7 @@ op_of (step.Frame text name sandbox to) = op.Frame
 op_of (step.Drop index) = op.Drop
 op_of (step.Open text target noopener user to) = op.Open
 op_of (step.Link text target rel user) = op.Link
+op_of (step.Domain value) = op.Domain
 
 abbrev pub move_by : ℕ → Point → OpName → Performed → Move
 move_by doc point op (Answer o) = Answers doc point op o

@@ -1,7 +1,7 @@
 use Rattle.std.proofs.lemmas.Result.{err_from_is_err_and}
 use Rattle.link_fields.specs.Values.{items_at}
 use Rattle.link_fields.proofs.Loops.{goes_on, ends, is_done}
-use Rattle.link_wire.specs.Entries.{entry}
+use Rattle.frame_grammar.specs.Entries.{entry}
 use Rattle.link_wire.proofs.entry_reading.read_entries.Goals as goal
 
 pub returns-in_err-entry : goal.returns-in_err-entry

@@ -1,6 +1,6 @@
 use Rattle.std.proofs.Common.{◌≡◌, ◌++◌, take}
 use Rattle.std.specs.List.{flat_map}
-use Rattle.link_wire.specs.Entries.{entry}
+use Rattle.frame_grammar.specs.Entries.{entry}
 use Rattle.link_wire.proofs.entry_writing.put_entries.Given as goal
 
 abbrev pub invariant-loop-entry : goal.invariant-loop-entry

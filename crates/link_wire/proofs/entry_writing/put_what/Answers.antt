@@ -2,7 +2,7 @@ use Rattle.std.proofs.Common.{◌++◌, ◌∙◌, ap, sym}
 use Rattle.std.proofs.lemmas.Result.{on_ok_weaker}
 use Rattle.link_fields.specs.Basic.{u16, u32, text, flags, optional}
 use Rattle.link_fields.specs.Origins.{origin}
-use Rattle.link_wire.specs.Entries.{what_body}
+use Rattle.frame_grammar.specs.Entries.{what_body}
 use Rattle.link_wire.proofs.Writes.{two_put}
 use Rattle.link_wire.proofs.entry_writing.put_what.Goals as goal
 

@@ -1,6 +1,6 @@
 use Rattle.std.proofs.Common.{◌∙◌, ap, subst, arith}
 use Rattle.link_wire.specs.Bad.{Decoded, Decodes}
-use Rattle.link_wire.specs.ReplyParts.{ReplyParts}
+use Rattle.frame_grammar.specs.Cut.{ReplyParts}
 use Rattle.link_wire.specs.Replies.{reply_of}
 use Rattle.link_wire.proofs.ReplyFrames.{found, reply_again}
 use Rattle.link_wire.proofs.replies.decode_reply.Goals as goal
