@@ -1,4 +1,4 @@
-// Encodes and decodes the reply of `bench/frames` with node's Buffer, for scale: the same 20,000 entries, as objects,
+// Encodes and decodes the reply of `bench/frames` with node's Buffer, for scale: the same 2,452 entries, as objects,
 // and the same bytes. Nothing is tested that a decoder of frames has to test.
 //
 //   node bench/frames.mjs [ROUNDS]
@@ -12,7 +12,7 @@ const KIND = { frame: 2, commit: 6, post: 9, fire: 10, sync: 15 };
 
 function entries() {
   const news = [];
-  for (let nav = 0; nav < 476; nav++) {
+  for (let nav = 0; nav < 56; nav++) {
     const host = `s${nav % 7}.test`;
     const origin = { scheme: 1, ip: 0, host, port: null };
     const load = { doc: nav, home: 1, origin, url: `https://${host}/p17` };
@@ -23,7 +23,7 @@ function entries() {
       news.push({ kind: KIND.fire, by: 0, actor: null, doc: 1, post: number });
     }
   }
-  for (let k = 0; k < 8; k++) news.push({ kind: KIND.sync, by: 0, actor: 1 });
+  for (let k = 0; k < 100; k++) news.push({ kind: KIND.sync, by: 0, actor: 1 });
   return news;
 }
 
@@ -65,10 +65,11 @@ class Writer {
 
 function encode(news) {
   const out = new Writer();
-  out.u8(1);
+  out.u8(2);
   out.u8(0x41);
   out.u32(0);
   out.u32(0);
+  out.u8(0);
   out.u32(news.length);
   for (const entry of news) {
     out.u8(entry.kind);
@@ -142,7 +143,7 @@ function entryFrom(from) {
 }
 
 function decode(bytes) {
-  const from = new Reader(bytes, 10);
+  const from = new Reader(bytes, 11);
   const count = from.u32();
   const news = [];
   for (let k = 0; k < count; k++) news.push(entryFrom(from));

@@ -2,9 +2,9 @@
 //! answers.
 //!
 //! ```text
-//! q 010100000000         a request's frame: good 010100000000
-//! p 0145                 a reply's frame: bad 2 Short
-//! feed 0101              a piece of the stream of requests: more, whole USED FRAME, or bad PLACE WHY
+//! q 020100000000         a request's frame: good 020100000000
+//! p 0245                 a reply's frame: bad 2 Short
+//! feed 0201              a piece of the stream of requests: more, whole USED FRAME, or bad PLACE WHY
 //! ```
 //!
 //! A line ends with a line feed or with the input. One that begins with `#` is printed as it is; here it says where the

@@ -1,4 +1,4 @@
-//! Encodes or decodes a reply of 20,000 entries, as often as it is told: what the script `bench/frames` times.
+//! Encodes or decodes a reply of 2,452 entries, as many as have room in it, as often as it is told: what the script `bench/frames` times.
 //!
 //! ```text
 //! frame_rounds encode 100
@@ -7,9 +7,9 @@
 //! frame_rounds half_deep 1
 //! ```
 //!
-//! It prints the rounds and the length of the frame. The entries are those of a window with 476 frames, each
-//! of which posts 20 messages to the window and is sent none. `deep` decodes a reply of 64 MiB whose data
-//! nests as deep as it can, and `half_deep` one of 32 MiB: each ends within its innermost list, and is refused there.
+//! It prints the rounds and the length of the frame. The entries are those of a window with 56 frames, each
+//! of which posts 20 messages to the window and is sent none. `deep` decodes a reply of 64 KiB whose data
+//! nests as deep as it can, and `half_deep` one of 32 KiB: each ends within its innermost list, and is refused there.
 #![tactic(auto)]
 
 mod news;
@@ -43,11 +43,11 @@ fn form_of(word: &str) -> Option<Form> {
 // The length of the frame with so many lists in one another, once it was refused so often: at its end, where the
 // innermost list lacks its item.
 fn refuse(alloc: Global, lists: u32, rounds: u32) -> Result<usize, AllocError>
-    requires { lists ≤ 22369613 }
+    requires { lists ≤ 21836 }
 {
     let frame = deep_reply(alloc, lists)?;
     let end = Bad {
-        place: 31 + 3 * lists,
+        place: 32 + 3 * lists,
         why: Why::Short,
     };
     for _ in 0..rounds {
@@ -80,8 +80,8 @@ fn run(alloc: Global, form: Form, rounds: u32) -> Result<usize, AllocError> {
             }
             Ok(frame.len())
         }
-        Form::Deep => refuse(alloc, 22369613, rounds),
-        Form::HalfDeep => refuse(alloc, 11184802, rounds),
+        Form::Deep => refuse(alloc, 21836, rounds),
+        Form::HalfDeep => refuse(alloc, 10918, rounds),
     }
 }
 

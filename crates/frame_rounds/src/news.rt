@@ -6,7 +6,10 @@ use plain_data::{Data, Text};
 use std::alloc::{AllocError, Global};
 use tree_log::{Entry, Load, Target, What};
 
-const FRAMES: u32 = 476;
+const FRAMES: u32 = 56;
+
+// As many as have room behind the frames and their messages.
+const SYNCS: u32 = 100;
 
 fn page(alloc: Global, text: &str) -> Result<PageUrl, AllocError> {
     match read_url(alloc, text, None) {
@@ -81,7 +84,7 @@ fn sync() -> Entry {
     }
 }
 
-// Frames of seven sites, each loaded, with twenty messages each and their ends; and eight more entries.
+// Frames of seven sites, each loaded, with twenty messages each and their ends; and more entries.
 fn entries(alloc: Global) -> Result<Vec<Entry>, AllocError> {
     let sites = [
         "https://s0.test/p17",
@@ -103,30 +106,31 @@ fn entries(alloc: Global) -> Result<Vec<Entry>, AllocError> {
             entries.push(fire(number))?;
         }
     }
-    for _ in 0..8 {
+    for _ in 0..SYNCS {
         entries.push(sync())?;
     }
     Ok(entries)
 }
 
-/// A reply that tells 20,000 entries.
+/// A reply that tells 2,452 entries, in a body of 65,533 bytes.
 pub(crate) fn busy_reply(alloc: Global) -> Result<Reply, AllocError> {
     Ok(Reply {
         outcome: ReplyOutcome::Done,
         from: 0,
+        more: false,
         news: entries(alloc)?,
     })
 }
 
 /// The bytes of a reply with a message whose data is a list in a list, and so on: so many lists, and behind them the
-/// frame's end. With 22,369,613 lists its body has 64 MiB.
+/// frame's end. With 21,836 lists its body has 65,534 bytes.
 pub(crate) fn deep_reply(alloc: Global, lists: u32) -> Result<Vec<u8>, AllocError>
-    requires { lists ≤ 22369613 }
+    requires { lists ≤ 21836 }
 {
-    let mut frame = [1, 0x46].as_slice().to_vec(alloc)?; // the outcome is Nothing
-    frame.extend_from_slice(&(25 + 3 * lists).to_be_bytes())?;
+    let mut frame = [2, 0x46].as_slice().to_vec(alloc)?; // the outcome is Nothing
+    frame.extend_from_slice(&(26 + 3 * lists).to_be_bytes())?;
     frame.extend_from_slice(&[
-        0, 0, 0, 0, 0, 0, 0, 1, // one entry from place 0 on
+        0, 0, 0, 0, 0, 0, 0, 0, 1, // from place 0 on, no more, one entry
         9, 0, 0, // a message, of no renderer and no document
         0, 0, 0, 0, 0, 0, 0, 0, // from and to
         1, 0, 0, 0, 0, 0, // an opaque origin, any target
