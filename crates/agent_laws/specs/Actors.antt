@@ -6,10 +6,11 @@ use Rattle.agent_terms.specs.declared.request.Request.{Request}
 use Rattle.agent_terms.specs.declared.request.Request.TheVariants as ask
 use Rattle.coordinator_rules.specs.Decision.{asker_of}
 
--- whether the request is for the next task
-unfoldable pub is_next : Request → Bool
-is_next ask.Next = true
-is_next _ = false
+-- whether no document asks: for the next task, and for the rest of a reply
+unfoldable pub has_no_asker : Request → Bool
+has_no_asker ask.Next = true
+has_no_asker ask.More = true
+has_no_asker _ = false
 
 -- each entry is renderer r's, and acted by this document or by none
 abbrev pub AreActedBy : ℕ → Option ℕ → List Entry → Type 0

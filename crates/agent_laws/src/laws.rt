@@ -1,5 +1,5 @@
 //! Each function does nothing: its contract is the law.
-ghost use Rattle.agent_laws.specs.Actors.{is_next, AreActedBy, IsFenced};
+ghost use Rattle.agent_laws.specs.Actors.{has_no_asker, AreActedBy, IsFenced};
 ghost use Rattle.agent_laws.specs.Belonging.{Belongs, IsClosed, RegistersBelong, StoresBelong};
 ghost use Rattle.agent_laws.specs.Sights.{AgreeOn, HoldsGroup, HoldsKept, sight_of};
 ghost use Rattle.agent_laws.specs.Wellness.{AllBelow, IsWell};
@@ -36,7 +36,7 @@ ghost use Rattle.window_props.specs.declared.value.Value.{Value};
 /// A request that adds entries has an active asker of that renderer, which acts in each of them; a task is taken by the
 /// renderer, and no document acts.
 pub fn an_exchange_is_fenced()
-    ensures request { (rules : Rules) (log : List Entry) (r : ℕ) (q : Request) → is_next q ≡ false →
+    ensures request { (rules : Rules) (log : List Entry) (r : ℕ) (q : Request) → has_no_asker q ≡ false →
         ((exchange rules log r q).entries ≡ []) ⊎ IsFenced log r q (exchange rules log r q).entries }
     ensures task { (rules : Rules) (log : List Entry) (r : ℕ) → AreActedBy r None (exchange rules log r ask.Next).entries }
 {}
@@ -63,7 +63,7 @@ pub fn what_is_named_is_there()
 /// The outcome of a request for anything but the next task is the same on a blanked log, whoever is kept; the next task
 /// is the same where all documents homed at the renderer are kept.
 pub fn exchanges_on_blanked_logs()
-    ensures outcome { (rules : Rules) (kept : ℕ → Bool) (log : List Entry) (r : ℕ) (q : Request) → is_next q ≡ false →
+    ensures outcome { (rules : Rules) (kept : ℕ → Bool) (log : List Entry) (r : ℕ) (q : Request) → has_no_asker q ≡ false →
         (exchange rules (blanked kept log) r q).outcome ≡ (exchange rules log r q).outcome }
     ensures task { (kept : ℕ → Bool) (log : List Entry) (r : ℕ) → ((d : ℕ) → is_homed (tree_of log) r d ≡ true → kept d ≡ true) →
         next_task (blanked kept log) r ≡ next_task log r }

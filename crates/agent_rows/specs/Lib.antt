@@ -13,3 +13,7 @@ pub mod Symbols
 pub mod Tasks
 pub mod Shop
 pub mod Losses
+pub mod Domains
+pub mod Replies
+pub mod LostTasks
+pub mod AlikeLinks

@@ -3,7 +3,7 @@ use Rattle.std.specs.Prelude.{◌≡◌, refl, ℕ, List, [], ◌∷◌, Option,
 use Rattle.origin_core.specs.declared.origin.Origin.TheVariants.{Opaque}
 use Rattle.tree_log.specs.declared.entry.Entry.{Entry}
 use Rattle.tree_log.specs.declared.entry.What.TheVariants.{Open, Begin, Fragment, Opener}
-use Rattle.tree_log.specs.Tree.{tree_of, is_active, is_discarded, chain, is_top_level, group_of, nav_of, home_of, origin_of, same_domain}
+use Rattle.tree_log.specs.Tree.{tree_of, is_active, is_discarded, chain, is_top_level, group_of, nav_of, home_of, same_domain}
 use Rattle.tree_log.specs.Admits.{admits, AreAdmitted}
 use Rattle.tree_log.specs.Blanking.{is_open_to}
 use Rattle.tree_log.specs.Urls.{url_of}

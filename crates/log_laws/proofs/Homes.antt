@@ -4,3 +4,4 @@ pub mod Grown
 pub mod HomeLaw
 pub mod Told
 pub mod PlayedHomes
+pub mod Domains

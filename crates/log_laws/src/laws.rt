@@ -1,5 +1,5 @@
 //! Laws of homes, and of the logs of plays. Each function does nothing: its contract is the law.
-ghost use Rattle.agent_laws.specs.Actors.{is_next};
+ghost use Rattle.agent_laws.specs.Actors.{has_no_asker};
 ghost use Rattle.agent_laws.specs.Belonging.{IsClosed};
 ghost use Rattle.agent_terms.specs.declared.request.Request.{Request};
 ghost use Rattle.coordinator_rules.specs.Decision.{Rules, asker_of, exchange, home_if_active};
@@ -10,10 +10,10 @@ ghost use Rattle.single_agent.specs.Shown.{shown_to};
 ghost use Rattle.single_agent.specs.Turns.{Turned, ArePlayed, log_of};
 ghost use Rattle.agent_terms.specs.Limits.{most_entries};
 ghost use Rattle.agent_terms.specs.declared.session.Session.{Session};
-ghost use Rattle.std.specs.Prelude.{ℕ, ◌≡◌, ◌+◌, ◌<◌, ◌≤◌, ◌^◌, Bool, false, true, length, List};
+ghost use Rattle.std.specs.Prelude.{ℕ, ◌≡◌, ◌+◌, ◌<◌, ◌≤◌, ◌^◌, ◌∷◌, Bool, false, true, length, List, None};
 ghost use Rattle.tree_log.specs.Admits.{AreAdmitted};
 ghost use Rattle.tree_log.specs.Blanking.{blanked, is_homed, is_open_to};
-ghost use Rattle.tree_log.specs.Tree.{tree_of, home_of, is, is_active};
+ghost use Rattle.tree_log.specs.Tree.{tree_of, home_of, domain_of, is, is_active};
 ghost use Rattle.tree_log.specs.declared.entry.Entry.{Entry};
 
 /// In a legal log that no initial document acts in, documents of one group that are same origin-domain have one home.
@@ -59,11 +59,19 @@ pub fn played_logs()
         shown_to asker (told_log (home_of (tree_of (log_of s turns)) asker) (log_of s turns)) ≡ shown_to asker (log_of s turns) }
 {}
 
-/// A request of a document that is active, at the renderer that is its home, adds an entry to the log: any but that for the
-/// next task.
+/// A request of a document that is active, at the renderer that is its home, adds an entry to the log.
 #[tactic(auto, using(crate::proofs::Plays::Adds::request_adds))]
 pub fn a_request_adds_an_entry()
-    ensures { (rules : Rules) (log : List Entry) (r : ℕ) (q : Request) → is_next q ≡ false →
+    ensures { (rules : Rules) (log : List Entry) (r : ℕ) (q : Request) → has_no_asker q ≡ false →
         is (home_if_active (tree_of log) (asker_of q)) r ≡ true → is_active (tree_of log) (asker_of q) ≡ true →
         0 < length (exchange rules log r q).entries }
+{}
+
+/// A new document has no domain, whatever domain an earlier document of its navigable has set: none has one before an entry
+/// makes it, nor once that entry stands.
+#[tactic(auto, using(crate::proofs::Homes::Domains::unmade_none, crate::proofs::Homes::Domains::made_none))]
+pub fn a_new_document_has_no_domain()
+    ensures before { (log : List Entry) (d : ℕ) → AreAdmitted log → (tree_of log).docs ≤ d → domain_of (tree_of log) d ≡ None }
+    ensures made { (log : List Entry) (entry : Entry) (d : ℕ) → AreAdmitted (entry ∷ log) → (tree_of log).docs ≤ d →
+        domain_of (tree_of (entry ∷ log)) d ≡ None }
 {}

@@ -1,6 +1,7 @@
 -- Exchanges add messages for documents that are there alone, and give no document that is there another home.
-use Rattle.std.proofs.Common.{◌≡◌, ℕ, ◌+◌, ◌<◌, List, [], ◌∷◌, ◌++◌, length, Option, Some, None, Bool, true, false, refl, ap, ◌∙◌, sym, subst, ◌&&◌, ◌||◌, if◌then◌else◌, arith}
-use Rattle.std.specs.Prelude.{◌==◌, nat_lt, is_none, unwrap_or}
+use Rattle.std.proofs.Common.{◌≡◌, ℕ, ◌+◌, ◌<◌, List, [], ◌∷◌, ◌++◌, length, Option, Some, None, Bool, true, false, refl, ap, ◌∙◌, ◌&&◌, ◌||◌, if◌then◌else◌, arith}
+use Rattle.std.specs.Prelude.{◌==◌, nat_lt, is_none, map, unwrap_or}
+use Rattle.std.specs.Char.{to_ascii_lowercase}
 use Rattle.std.specs.Option.{option_or}
 use Rattle.origin_core.specs.Flags.{union}
 use Rattle.origin_core.specs.Origin.{page_origin}
@@ -20,10 +21,10 @@ use Rattle.single_agent.specs.LegalLog.{lost_entry}
 use Rattle.single_agent.specs.Session.{starts_of, started, start_entry}
 use Rattle.coordinator_rules.specs.NextTask.{next_task}
 use Rattle.coordinator_rules.specs.Navigation.{flags_in, is_in, may_navigate, may_close, Choice, Existing, New, Nothing, choice}
-use Rattle.coordinator_rules.specs.Decision.{Rules, rules_of, Decision, decide, exchange, by, one, group_in, load_for, frame_load, frame_entry, navigation, window_load, new_window, made_or_null, opener_entry, or_sync, open_chosen, link_chosen, if_open, is_live, is_near, task_decision}
-use Rattle.agent_laws.specs.Actors.{is_next}
+use Rattle.coordinator_rules.specs.Decision.{asking, Rules, rules_of, Decision, decide, exchange, by, one, group_in, load_for, frame_load, frame_entry, navigation, window_load, new_window, made_or_null, opener_entry, or_sync, open_chosen, link_chosen, if_open, is_live, is_near, task_decision}
+use Rattle.agent_laws.specs.Actors.{has_no_asker}
 use Rattle.twin_laws.specs.Twins.{IsForThere, KeepsHomes, HomesStay}
-use Rattle.agent_laws.proofs.Logs.Exchanges.{only_next, decided_or_none}
+use Rattle.agent_laws.proofs.Logs.Exchanges.{without_asker, decided_or_none, domain_cases}
 use Rattle.agent_laws.proofs.Logs.Older.{at_other}
 use Rattle.agent_laws.proofs.Logs.Admitted.{IsTask, Commits, Fires, Lapses, Closes, next_is_task}
 
@@ -122,7 +123,7 @@ synced_stays log r asker n true = (sync_stays _, tt)
 synced_stays log r asker n false = (opener_stays _ n _, tt)
 
 chosen_stays : (rules : Rules) (log : List Entry) (fragment : ℕ → List ℕ → Bool) (r asker : ℕ) (url : Option (List ℕ)) (name : List ℕ) (noopener user : Bool) (c : Choice)
-    → AllStay log (open_chosen rules (tree_of log) fragment r asker url name noopener user c).entries
+    → AllStay log (open_chosen (asking rules (tree_of log) r asker noopener user) fragment url name c).entries
 chosen_stays rules log fragment r asker url name noopener user Nothing = (sync_stays _, tt)
 chosen_stays rules log fragment r asker url name noopener user New = (window_stays rules (tree_of log) asker name noopener url, tt)
 chosen_stays rules log fragment r asker None name noopener user (Existing n) = synced_stays log r asker n (noopener || n == nav_of (tree_of log) asker)
@@ -132,10 +133,10 @@ chosen_stays rules log fragment r asker (Some url) name noopener user (Existing 
     (record { entries = opener_entry t r asker noopener n ++ by r asker (navigation rules t (fragment n url) asker n url) ∷ []; outcome = made_or_null noopener n }) (one r asker what.Sync (reply.Security 7))
     (front_stays log r asker n (noopener || n == nav_of t asker) (navigation rules t (fragment n url) asker n url) (navigation_stays rules t (fragment n url) asker n url)) (sync_stays _, tt)
 
-link_stays : (rules : Rules) (t : Tree) (fragment : ℕ → List ℕ → Bool) (asker : ℕ) (url name : List ℕ) (noopener user : Bool) (c : Choice) → Stays t (link_chosen rules t fragment asker url name noopener user c)
-link_stays rules t fragment asker url name noopener user Nothing = sync_stays t
-link_stays rules t fragment asker url name noopener user New = window_stays rules t asker name noopener (Some url)
-link_stays rules t fragment asker url name noopener user (Existing n) =
+link_stays : (rules : Rules) (t : Tree) (r : ℕ) (fragment : ℕ → List ℕ → Bool) (asker : ℕ) (url name : List ℕ) (noopener user : Bool) (c : Choice) → Stays t (link_chosen (asking rules t r asker noopener user) fragment url name c)
+link_stays rules t r fragment asker url name noopener user Nothing = sync_stays t
+link_stays rules t r fragment asker url name noopener user New = window_stays rules t asker name noopener (Some url)
+link_stays rules t r fragment asker url name noopener user (Existing n) =
     stays_if t (may_navigate t (nav_of t asker) n user) (navigation rules t (fragment n url) asker n url) what.Sync (navigation_stays rules t (fragment n url) asker n url) (sync_stays t)
 
 open_stays : (log : List Entry) (r asker doc : ℕ) (w : What) → Stays (tree_of log) w → AllStay log (if_open (tree_of log) r asker doc w).entries
@@ -145,7 +146,7 @@ open_stays log r asker doc w s =
     (decides_if log (same_domain t asker doc) (one r asker w reply.Done) (one r asker what.Sync (reply.Security 8)) (s, tt) (sync_stays t, tt)) (sync_stays t, tt)
 
 decide_stays : (rules : Rules) (log : List Entry) (fragment : ℕ → List ℕ → Bool) (r : ℕ) (q : Request) → AllStay log (decide rules (tree_of log) fragment r q).entries
-unfolding decide
+unfolding decide DecidesSo
 decide_stays rules log fragment r ask.Next = tt
 decide_stays rules log fragment r (ask.Sync asker) = (sync_stays _, tt)
 decide_stays rules log fragment r (ask.Frame asker name flags url) = (frame_stays rules (tree_of log) asker name (union flags (flags_in (tree_of log) (nav_of (tree_of log) asker))) url, tt)
@@ -154,7 +155,7 @@ decide_stays rules log fragment r (ask.Drop asker nav) =
 decide_stays rules log fragment r (ask.Open asker url name noopener user) =
     chosen_stays rules log fragment r asker url name noopener user (choice (tree_of log) (nav_of (tree_of log) asker) name noopener user)
 decide_stays rules log fragment r (ask.Link asker url name noopener user) =
-    (link_stays rules (tree_of log) fragment asker url name noopener user (choice (tree_of log) (nav_of (tree_of log) asker) name noopener user), tt)
+    (link_stays rules (tree_of log) r fragment asker url name noopener user (choice (tree_of log) (nav_of (tree_of log) asker) name noopener user), tt)
 decide_stays rules log fragment r (ask.Go asker doc url user) =
     let t : Tree = tree_of log in
     decides_if log (is_live t asker doc) (if may_navigate t (nav_of t asker) (nav_of t doc) user then one r asker (navigation rules t (fragment (nav_of t doc) url) asker (nav_of t doc) url) reply.Done else one r asker what.Sync (reply.Security 7)) (one r asker what.Sync reply.Done)
@@ -176,6 +177,10 @@ decide_stays rules log fragment r (ask.Post asker doc target body) = (posted (is
     posted : (b : Bool) → is_near t asker doc ≡ b → Stays t (if b then what.Post doc (nav_of t asker) (origin_of t asker) target body else what.Sync)
     posted true e = record { there = lt_of doc t.docs (both (nat_lt doc t.docs) (same_group t (nav_of t asker) (nav_of t doc)) e).0; none_made = λ d lt. refl }
     posted false e = sync_stays t
+decide_stays rules log fragment r (ask.Domain asker value) =
+    domain_cases (DecidesSo log) rules (tree_of log) r asker (map to_ascii_lowercase value) (λ n. (sync_stays (tree_of log), tt))
+    (λ effective is fits. (record { there = tt; none_made = λ d lt. refl }, tt))
+decide_stays rules log fragment r ask.More = tt
 
 -- EXCHANGES
 
@@ -193,16 +198,16 @@ next_stays : (rules : Rules) (log : List Entry) (r : ℕ) → AllStay log (excha
 unfolding exchange
 next_stays rules log r = taken_stays log r (length log) (next_task log r) (next_is_task log r)
 
-request_stays : (rules : Rules) (log : List Entry) (r : ℕ) (q : Request) → is_next q ≡ false → DecidesSo log (exchange rules log r q)
+request_stays : (rules : Rules) (log : List Entry) (r : ℕ) (q : Request) → has_no_asker q ≡ false → DecidesSo log (exchange rules log r q)
 unfolding DecidesSo
 request_stays rules log r q other = decided_or_none (DecidesSo log) rules log r q other tt tt (λ been home active. decide_stays rules log _ r q)
 
 entries_stay : (rules : Rules) (log : List Entry) (r : ℕ) (q : Request) → AllStay log (exchange rules log r q).entries
 unfolding DecidesSo
-entries_stay rules log r q = by_kind (is_next q) refl
+entries_stay rules log r q = by_kind (has_no_asker q) refl
   where
-    by_kind : (b : Bool) → is_next q ≡ b → AllStay log (exchange rules log r q).entries
-    by_kind true e = subst (λ (z : Request). AllStay log (exchange rules log r z).entries) (sym (only_next q e)) (next_stays rules log r)
+    by_kind : (b : Bool) → has_no_asker q ≡ b → AllStay log (exchange rules log r q).entries
+    by_kind true e = without_asker (DecidesSo log) rules log r q e (next_stays rules log r) tt
     by_kind false e = request_stays rules log r q e
 
 -- whatever is asked, homes stay

@@ -19,11 +19,11 @@ use Rattle.agent_terms.specs.declared.request.Request.TheVariants as ask
 use Rattle.agent_terms.specs.declared.request.ReplyOutcome.{ReplyOutcome}
 use Rattle.agent_terms.specs.declared.request.ReplyOutcome.TheVariants as reply
 use Rattle.coordinator_rules.specs.Navigation.{flags_in, may_navigate, Choice, Existing, New, Nothing, choice}
-use Rattle.coordinator_rules.specs.Decision.{Rules, Decision, decide, exchange, end_of, is_in_fragment, asker_of, home_if_active, by, one, group_in, load_for, frame_entry, navigation, new_window, window_flags, window_name, unless, made_or_null, open_chosen, link_chosen, opener_entry, is_live, is_near}
-use Rattle.agent_laws.specs.Actors.{is_next}
+use Rattle.coordinator_rules.specs.Decision.{asking, Rules, Decision, decide, exchange, end_of, is_in_fragment, asker_of, home_if_active, by, one, group_in, load_for, frame_entry, navigation, new_window, window_flags, window_name, unless, made_or_null, open_chosen, link_chosen, opener_entry, is_live, is_near}
+use Rattle.agent_laws.specs.Actors.{has_no_asker}
 use Rattle.twin_laws.specs.Twins.{TwinLogs, HomesStay}
 use Rattle.twin_laws.specs.Alike.{url_home, url_home_in, IsElsewhere, HasSameOrigin, made, is_fragment, has_fragment, Differs, Message, Gone_to, Linked, Opened, Framed, IsAlike}
-use Rattle.agent_laws.proofs.Logs.Exchanges.{only_next, exchange-asked, asked-decided, not_yours, unloaded}
+use Rattle.agent_laws.proofs.Logs.Exchanges.{exchange-asked, asked-decided, not_yours, unloaded, rest_told, more_gives}
 use Rattle.twin_laws.proofs.NextTwins.{next_pair}
 use Rattle.twin_laws.proofs.Twins.{Agree, agree_same, agree_at, agree_if, TwinWhat, same_twin, loading_twin, home_of_begin, home_of_open, home_of_frame, fragment_home, tree_of-twin, end_of-twin}
 
@@ -105,8 +105,8 @@ twin_if left r x asker true v w other f h = f h
 twin_if left r x asker false v w other f h = same_twin (is_homed (tree_of (by x asker other ∷ left)) r) (by x asker other)
 
 link_twin : (rules : Rules) (left : List Entry) (r x asker : ℕ) (url other name : List ℕ) (noopener user fragment : Bool) → HasSameOrigin (tree_of left) asker url other → (c : Choice)
-    → IsElsewhere r (url_home (tree_of left) (link_chosen rules (tree_of left) (always fragment) asker url name noopener user c))
-    → TwinWhat left r x asker (link_chosen rules (tree_of left) (always fragment) asker url name noopener user c) (link_chosen rules (tree_of left) (always fragment) asker other name noopener user c)
+    → IsElsewhere r (url_home (tree_of left) (link_chosen (asking rules (tree_of left) x asker noopener user) (always fragment) url name c))
+    → TwinWhat left r x asker (link_chosen (asking rules (tree_of left) x asker noopener user) (always fragment) url name c) (link_chosen (asking rules (tree_of left) x asker noopener user) (always fragment) other name c)
 link_twin rules left r x asker url other name noopener user fragment e Nothing h = absurd h
 link_twin rules left r x asker url other name noopener user fragment e New h = window_twin rules left r x asker url other name noopener e h
 link_twin rules left r x asker url other name noopener user fragment e (Existing n) h =
@@ -114,8 +114,8 @@ link_twin rules left r x asker url other name noopener user fragment e (Existing
     twin_if left r x asker (may_navigate t (nav_of t asker) n user) (navigation rules t fragment asker n url) (navigation rules t fragment asker n other) Sync (navigation_twin rules left r x asker n url other e fragment) h
 
 opened_agree : (rules : Rules) (left : List Entry) (r x asker : ℕ) (url other name : List ℕ) (noopener user fragment : Bool) → HasSameOrigin (tree_of left) asker url other → (c : Choice)
-    → IsElsewhere r (url_home_in (tree_of left) (open_chosen rules (tree_of left) (always fragment) x asker (Some url) name noopener user c).entries)
-    → Agree r left (open_chosen rules (tree_of left) (always fragment) x asker (Some url) name noopener user c) (open_chosen rules (tree_of left) (always fragment) x asker (Some other) name noopener user c)
+    → IsElsewhere r (url_home_in (tree_of left) (open_chosen (asking rules (tree_of left) x asker noopener user) (always fragment) (Some url) name c).entries)
+    → Agree r left (open_chosen (asking rules (tree_of left) x asker noopener user) (always fragment) (Some url) name c) (open_chosen (asking rules (tree_of left) x asker noopener user) (always fragment) (Some other) name c)
 opened_agree rules left r x asker url other name noopener user fragment e Nothing h = agree_same r left (one x asker Sync reply.Null)
 opened_agree rules left r x asker url other name noopener user fragment e New h =
     let t : Tree = tree_of left in
@@ -150,8 +150,8 @@ unfolding decide
 linked_agree rules left r x asker url other name noopener user fragment e h =
     let t : Tree = tree_of left in
     let c : Choice = choice t (nav_of t asker) name noopener user in
-    agree_at r left [] x asker (link_chosen rules t (always fragment) asker url name noopener user c) (link_chosen rules t (always fragment) asker other name noopener user c) reply.Done
-    (link_twin rules left r x asker url other name noopener user fragment e c (at_one r t (by x asker (link_chosen rules t (always fragment) asker url name noopener user c)) h))
+    agree_at r left [] x asker (link_chosen (asking rules t x asker noopener user) (always fragment) url name c) (link_chosen (asking rules t x asker noopener user) (always fragment) other name c) reply.Done
+    (link_twin rules left r x asker url other name noopener user fragment e c (at_one r t (by x asker (link_chosen (asking rules t x asker noopener user) (always fragment) url name c)) h))
 
 framed_agree : (rules : Rules) (left : List Entry) (r x asker : ℕ) (url other name : List ℕ) (flags : ℕ) (fragment : Bool) → HasSameOrigin (tree_of left) asker url other → is_none (page_origin url) ≡ is_none (page_origin other)
     → IsElsewhere r (url_home_in (tree_of left) (decide rules (tree_of left) (always fragment) x (ask.Frame asker name flags (Some url))).entries)
@@ -201,7 +201,7 @@ kind_twice test true f other last k shows = kind_if test f other k shows
 kind_twice test false f other last k shows = refl
 
 opened_kind : (rules : Rules) (t : Tree) (f : ℕ → List ℕ → Bool) (r asker : ℕ) (url : Option (List ℕ)) (name : List ℕ) (noopener user : Bool) (c : Choice)
-    → open_chosen rules t f r asker url name noopener user c ≡ open_chosen rules t (always (has_fragment (open_chosen rules t f r asker url name noopener user c).entries)) r asker url name noopener user c
+    → open_chosen (asking rules t r asker noopener user) f url name c ≡ open_chosen (asking rules t r asker noopener user) (always (has_fragment (open_chosen (asking rules t r asker noopener user) f url name c).entries)) url name c
 opened_kind rules t f r asker url name noopener user Nothing = refl
 opened_kind rules t f r asker url name noopener user New = refl
 opened_kind rules t f r asker None name noopener user (Existing n) = refl
@@ -210,8 +210,8 @@ opened_kind rules t f r asker (Some url) name noopener user (Existing n) =
     (λ b. front_kind rules t r asker (nav_of t asker) n url (noopener || n == nav_of t asker) b)
 
 linked_kind : (rules : Rules) (t : Tree) (f : ℕ → List ℕ → Bool) (r asker : ℕ) (url name : List ℕ) (noopener user : Bool) (c : Choice)
-    → one r asker (link_chosen rules t f asker url name noopener user c) reply.Done
-    ≡ one r asker (link_chosen rules t (always (is_fragment (link_chosen rules t f asker url name noopener user c) || false)) asker url name noopener user c) reply.Done
+    → one r asker (link_chosen (asking rules t r asker noopener user) f url name c) reply.Done
+    ≡ one r asker (link_chosen (asking rules t r asker noopener user) (always (is_fragment (link_chosen (asking rules t r asker noopener user) f url name c) || false)) url name c) reply.Done
 linked_kind rules t f r asker url name noopener user Nothing = refl
 linked_kind rules t f r asker url name noopener user New = refl
 linked_kind rules t f r asker url name noopener user (Existing n) = by_may (may_navigate t (nav_of t asker) n user)
@@ -251,12 +251,12 @@ answered_kind rules t f place x q = by_tests (is (home_if_active t (asker_of q))
     by_tests true false = refl
     by_tests false active = refl
 
-exchange-answered : (rules : Rules) (log : List Entry) (x : ℕ) (q : Request) → is_next q ≡ false
+exchange-answered : (rules : Rules) (log : List Entry) (x : ℕ) (q : Request) → has_no_asker q ≡ false
     → exchange rules log x q ≡ answered rules (tree_of log) (is_in_fragment (tree_of log) (url_of log)) (end_of log (asker_of q)) x q
 exchange-answered rules log x q other = exchange-asked rules log x q other
     ∙ ap (λ (d : Decision). if is (home_if_active (tree_of log) (asker_of q)) x then d else not_yours (tree_of log) (asker_of q)) (asked-decided rules log x q)
 
-exchange-kind : (rules : Rules) (log : List Entry) (x : ℕ) (q : Request) → is_next q ≡ false
+exchange-kind : (rules : Rules) (log : List Entry) (x : ℕ) (q : Request) → has_no_asker q ≡ false
     → exchange rules log x q ≡ answered rules (tree_of log) (always (has_fragment (made rules log x q))) (end_of log (asker_of q)) x q
 exchange-kind rules log x q other =
     let e = exchange-answered rules log x q other in
@@ -264,17 +264,17 @@ exchange-kind rules log x q other =
     ∙ ap (λ (d : Decision). answered rules (tree_of log) (always (has_fragment d.entries)) (end_of log (asker_of q)) x q) (sym e)
 
 -- the answer on the right log, by what the left log has
-answered-right : (rules : Rules) (left right : List Entry) (r x : ℕ) (fragment : Bool) (q : Request) → TwinLogs r left right → is_next q ≡ false → fragment ≡ has_fragment (made rules right x q)
+answered-right : (rules : Rules) (left right : List Entry) (r x : ℕ) (fragment : Bool) (q : Request) → TwinLogs r left right → has_no_asker q ≡ false → fragment ≡ has_fragment (made rules right x q)
     → exchange rules right x q ≡ answered rules (tree_of left) (always fragment) (end_of left (asker_of q)) x q
 answered-right rules left right r x fragment q h other s = exchange-kind rules right x q other ∙ rw (tree_of-twin r left right h, end_of-twin r left right (asker_of q) h, s) refl
 
-asker_same : (rules : Rules) (log : List Entry) (r x : ℕ) (q q' : Request) → Differs rules log r x q q' → (asker_of q ≡ asker_of q') × (is_next q ≡ false) × (is_next q' ≡ false)
-unfolding is_next
+asker_same : (rules : Rules) (log : List Entry) (r x : ℕ) (q q' : Request) → Differs rules log r x q q' → (asker_of q ≡ asker_of q') × (has_no_asker q ≡ false) × (has_no_asker q' ≡ false)
+unfolding has_no_asker
 asker_same rules log r x q q' (Message _ _ _ _ _ _ _) = (refl, refl, refl)
-asker_same rules log r x q q' (Gone_to _ _ _ _ _ _ _) = (refl, refl, refl)
-asker_same rules log r x q q' (Linked _ _ _ _ _ _ _ _) = (refl, refl, refl)
-asker_same rules log r x q q' (Opened _ _ _ _ _ _ _ _) = (refl, refl, refl)
-asker_same rules log r x q q' (Framed _ _ _ _ _ _ _ _) = (refl, refl, refl)
+asker_same rules log r x q q' (Gone_to _ _ _ _ _ _) = (refl, refl, refl)
+asker_same rules log r x q q' (Linked _ _ _ _ _ _ _) = (refl, refl, refl)
+asker_same rules log r x q q' (Opened _ _ _ _ _ _ _) = (refl, refl, refl)
+asker_same rules log r x q q' (Framed _ _ _ _ _ _ _) = (refl, refl, refl)
 
 agree_then : (r : ℕ) (left : List Entry) (test : Bool) (a b last : Decision) → Agree r left a b → Agree r left (if test then a else last) (if test then b else last)
 agree_then r left true a b last h = h
@@ -294,22 +294,22 @@ answered_agree rules left fragment place r x q q' same (Message asker doc target
     agree_then r left (is (home_if_active t asker) x) _ _ (not_yours t asker)
     (agree_then r left (is_active t asker) (decide rules t (always fragment) x (ask.Post asker doc target body)) (decide rules t (always fragment) x (ask.Post asker doc other other_body)) (unloaded place)
     (message_agree rules left r x asker doc target other body other_body fragment h))
-answered_agree rules left fragment place r x q q' same (Gone_to asker doc url other user e h) =
+answered_agree rules left fragment place r x q q' same (Gone_to asker doc url other user h) =
     let t : Tree = tree_of left in
     agree_where r left t (is (home_if_active t asker) x) (is_active t asker) (decide rules t (always fragment) x (ask.Go asker doc url user)) (decide rules t (always fragment) x (ask.Go asker doc other user)) (unloaded place) (not_yours t asker)
-    (gone_agree rules left r x asker doc url other user fragment e) (subst (λ (d : Decision). IsElsewhere r (url_home_in t d.entries)) same h)
-answered_agree rules left fragment place r x q q' same (Linked asker url other name noopener user e h) =
+    (gone_agree rules left r x asker doc url other user fragment h.0) (subst (λ (d : Decision). IsElsewhere r (url_home_in t d.entries)) same h.1)
+answered_agree rules left fragment place r x q q' same (Linked asker url other name noopener user h) =
     let t : Tree = tree_of left in
     agree_where r left t (is (home_if_active t asker) x) (is_active t asker) (decide rules t (always fragment) x (ask.Link asker url name noopener user)) (decide rules t (always fragment) x (ask.Link asker other name noopener user)) (unloaded place) (not_yours t asker)
-    (linked_agree rules left r x asker url other name noopener user fragment e) (subst (λ (d : Decision). IsElsewhere r (url_home_in t d.entries)) same h)
-answered_agree rules left fragment place r x q q' same (Opened asker url other name noopener user e h) =
+    (linked_agree rules left r x asker url other name noopener user fragment h.0) (subst (λ (d : Decision). IsElsewhere r (url_home_in t d.entries)) same h.1)
+answered_agree rules left fragment place r x q q' same (Opened asker url other name noopener user h) =
     let t : Tree = tree_of left in
     agree_where r left t (is (home_if_active t asker) x) (is_active t asker) (decide rules t (always fragment) x (ask.Open asker (Some url) name noopener user)) (decide rules t (always fragment) x (ask.Open asker (Some other) name noopener user)) (unloaded place) (not_yours t asker)
-    (opened_decided rules left r x asker url other name noopener user fragment e) (subst (λ (d : Decision). IsElsewhere r (url_home_in t d.entries)) same h)
-answered_agree rules left fragment place r x q q' same (Framed asker url other name flags e s h) =
+    (opened_decided rules left r x asker url other name noopener user fragment h.0) (subst (λ (d : Decision). IsElsewhere r (url_home_in t d.entries)) same h.1)
+answered_agree rules left fragment place r x q q' same (Framed asker url other name flags s h) =
     let t : Tree = tree_of left in
     agree_where r left t (is (home_if_active t asker) x) (is_active t asker) (decide rules t (always fragment) x (ask.Frame asker name flags (Some url))) (decide rules t (always fragment) x (ask.Frame asker name flags (Some other))) (unloaded place) (not_yours t asker)
-    (framed_agree rules left r x asker url other name flags fragment e s) (subst (λ (d : Decision). IsElsewhere r (url_home_in t d.entries)) same h)
+    (framed_agree rules left r x asker url other name flags fragment h.0 s) (subst (λ (d : Decision). IsElsewhere r (url_home_in t d.entries)) same h.1)
 
 -- by what both exchanges are
 pair_by : (rules : Rules) (left right : List Entry) (r x : ℕ) (q q' : Request) (a b : Decision) → exchange rules left x q ≡ a → exchange rules right x q' ≡ b → Agree r left a b
@@ -328,13 +328,21 @@ differs_pair rules left right r x q q' h s d =
     let kind : exchange rules left x q ≡ answered rules (tree_of left) (always f) (end_of left (asker_of q)) x q = exchange-kind rules left x q same.1 in
     pair_by rules left right r x q q' _ _ kind answer (answered_agree rules left f (end_of left (asker_of q)) r x q q' kind d)
 
+-- equal requests that no document makes
+no_asker_pair : (rules : Rules) (left right : List Entry) (r x : ℕ) (q : Request) → TwinLogs r left right → HomesStay left → has_no_asker q ≡ true
+    → Agree r left (exchange rules left x q) (exchange rules right x q)
+unfolding has_no_asker
+no_asker_pair rules left right r x ask.Next h stay e = next_pair rules left right r x h stay
+no_asker_pair rules left right r x ask.More h stay e = rw (more_gives rules left x, more_gives rules right x) (agree_same r left rest_told)
+no_asker_pair rules left right r x q h stay e = absurd (false≢true e)
+
 -- equal requests
 same_pair : (rules : Rules) (left right : List Entry) (r x : ℕ) (q : Request) → TwinLogs r left right → HomesStay left → has_fragment (made rules left x q) ≡ has_fragment (made rules right x q)
-    → (next : Bool) → is_next q ≡ next → Agree r left (exchange rules left x q) (exchange rules right x q)
+    → (no_asker : Bool) → has_no_asker q ≡ no_asker → Agree r left (exchange rules left x q) (exchange rules right x q)
 same_pair rules left right r x q h stay s false e =
     let f : Bool = has_fragment (made rules left x q) in
     pair_by rules left right r x q q _ _ (exchange-kind rules left x q e) (answered-right rules left right r x f q h e s) (agree_same r left (answered rules (tree_of left) (always f) (end_of left (asker_of q)) x q))
-same_pair rules left right r x q h stay s true e = subst (λ (z : Request). Agree r left (exchange rules left x z) (exchange rules right x z)) (sym (only_next q e)) (next_pair rules left right r x h stay)
+same_pair rules left right r x q h stay s true e = no_asker_pair rules left right r x q h stay e
 
 -- one exchange of any renderer on twin logs of r: the outcomes are the same, and the logs after it are twin logs
 pub exchange-twin : (rules : Rules) (left right : List Entry) (r x : ℕ) (q q' : Request) → TwinLogs r left right → HomesStay left → IsAlike rules left right r x q q'
@@ -343,7 +351,7 @@ exchange-twin rules left right r x q q' h stay alike =
     let a : Agree r left (exchange rules left x q) (exchange rules right x q') =
     elim (alike.alike) as (λ _. Agree r left (exchange rules left x q) (exchange rules right x q')) [
       | inl e ↦ subst (λ (z : Request). has_fragment (made rules left x q) ≡ has_fragment (made rules right x z) → Agree r left (exchange rules left x q) (exchange rules right x z)) e
-          (λ s. same_pair rules left right r x q h stay s (is_next q) refl) alike.same_kind
+          (λ s. same_pair rules left right r x q h stay s (has_no_asker q) refl) alike.same_kind
       | inr d ↦ differs_pair rules left right r x q q' h alike.same_kind d.2
     ] in
     (a.outcome, a.logs right h)

@@ -45,19 +45,23 @@ HasUrlElsewhere rules log r x request = IsElsewhere r (url_home_in (tree_of log)
 abbrev pub HasSameOrigin : Tree → ℕ → List ℕ → List ℕ → Type 0
 HasSameOrigin t asker url other = loaded_origin false 0 (origin_of t asker) url ≡ loaded_origin false 0 (origin_of t asker) other
 
+-- the URL in a request of renderer x is for a document that isn't homed at r, and another one is of its origin
+abbrev pub HidesUrl : Rules → List Entry → ℕ → ℕ → Request → List ℕ → List ℕ → Type 0
+HidesUrl rules log r x request url other = HasSameOrigin (tree_of log) (asker_of request) url other × HasUrlElsewhere rules log r x request
+
 -- requests of renderer x that differ only in a message for a document that isn't homed at r, or in a URL, but for its
 -- origin, that is for such a document
 pub data Differs (rules : Rules) (log : List Entry) (r x : ℕ) : Request → Request → Type 0 where
   Message : (asker doc : ℕ) (target other_target : Target) (body other_body : Data) → (home_of (tree_of log) doc == r) ≡ false
       → Differs rules log r x (ask.Post asker doc target body) (ask.Post asker doc other_target other_body)
-  Gone_to : (asker doc : ℕ) (url other : List ℕ) (user : Bool) → HasSameOrigin (tree_of log) asker url other → HasUrlElsewhere rules log r x (ask.Go asker doc url user)
+  Gone_to : (asker doc : ℕ) (url other : List ℕ) (user : Bool) → HidesUrl rules log r x (ask.Go asker doc url user) url other
       → Differs rules log r x (ask.Go asker doc url user) (ask.Go asker doc other user)
-  Linked : (asker : ℕ) (url other name : List ℕ) (noopener user : Bool) → HasSameOrigin (tree_of log) asker url other → HasUrlElsewhere rules log r x (ask.Link asker url name noopener user)
+  Linked : (asker : ℕ) (url other name : List ℕ) (noopener user : Bool) → HidesUrl rules log r x (ask.Link asker url name noopener user) url other
       → Differs rules log r x (ask.Link asker url name noopener user) (ask.Link asker other name noopener user)
-  Opened : (asker : ℕ) (url other name : List ℕ) (noopener user : Bool) → HasSameOrigin (tree_of log) asker url other → HasUrlElsewhere rules log r x (ask.Open asker (Some url) name noopener user)
+  Opened : (asker : ℕ) (url other name : List ℕ) (noopener user : Bool) → HidesUrl rules log r x (ask.Open asker (Some url) name noopener user) url other
       → Differs rules log r x (ask.Open asker (Some url) name noopener user) (ask.Open asker (Some other) name noopener user)
-  Framed : (asker : ℕ) (url other name : List ℕ) (flags : ℕ) → HasSameOrigin (tree_of log) asker url other → is_none (page_origin url) ≡ is_none (page_origin other)
-      → HasUrlElsewhere rules log r x (ask.Frame asker name flags (Some url))
+  Framed : (asker : ℕ) (url other name : List ℕ) (flags : ℕ) → is_none (page_origin url) ≡ is_none (page_origin other)
+      → HidesUrl rules log r x (ask.Frame asker name flags (Some url)) url other
       → Differs rules log r x (ask.Frame asker name flags (Some url)) (ask.Frame asker name flags (Some other))
 
 abbrev pub is_fragment : What → Bool

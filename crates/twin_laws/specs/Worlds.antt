@@ -1,13 +1,13 @@
 -- Runs of exchanges, as one renderer sees them.
-use Rattle.std.specs.Prelude.{ℕ, ◌-◌, List, [], ◌∷◌, ◌++◌, take, length, Bool, true, false, ◌==◌, ◌&&◌, if◌then◌else◌}
+use Rattle.std.specs.Prelude.{ℕ, ◌+◌, List, [], ◌∷◌, ◌++◌, length, ◌==◌, if◌then◌else◌}
 use Rattle.tree_log.specs.declared.entry.Entry.{Entry}
 use Rattle.agent_terms.specs.declared.request.Request.{Request}
-use Rattle.agent_terms.specs.declared.request.ReplyOutcome.{ReplyOutcome}
 use Rattle.agent_terms.specs.declared.request.ReplyOutcome.TheVariants as outcomes
 use Rattle.agent_terms.specs.declared.request.Why.{Why}
 use Rattle.coordinator_rules.specs.Decision.{Rules, Decision, exchange}
 use Rattle.single_agent.specs.LegalLog.{lost_entry}
-use Rattle.coordinator_rules.specs.Told.{told_log}
+use Rattle.coordinator_rules.specs.Told.{news_from}
+use Rattle.frame_grammar.specs.Cut.{ReplyParts, reply_telling}
 use Rattle.twin_laws.specs.Alike.{IsAlike}
 
 -- what the coordinator meets: a request of a renderer; bytes that are none, from which place on, and why; or the loss of a
@@ -22,34 +22,20 @@ pub record World : Type 0 where
   pub log : List Entry
   pub heard : ℕ
 
--- a reply: the outcome, and what the renderer is told that it wasn't told before
-pub record Reply : Type 0 where
-  pub outcome : ReplyOutcome
-  pub from : ℕ
-  pub news : List Entry
-
--- the newest entries of a log from a place on, as renderer r is told them
-abbrev pub news : ℕ → ℕ → List Entry → List Entry
-news r from log = take (length log - from) (told_log r log)
-
--- nothing is told to a renderer that isn't the asker's
-abbrev pub tells : ReplyOutcome → Bool
-tells (outcomes.NotYours _ _) = false
-tells _ = true
-
-abbrev pub reply_of : ℕ → World → Decision → Reply
-reply_of r w d = if tells d.outcome then record { outcome = d.outcome; from = w.heard; news = news r w.heard (d.entries ++ w.log) } else record { outcome = d.outcome; from = 0; news = [] }
+-- the reply: what the renderer wasn't told yet, as far as one reply has room
+abbrev pub reply_of : ℕ → World → Decision → ReplyParts
+reply_of r w d = reply_telling d.outcome w.heard (news_from r w.heard (d.entries ++ w.log))
 
 -- the reply to bytes that are no request: it tells nothing
-abbrev pub refusal : ℕ → Why → Reply
-refusal place why = record { outcome = outcomes.BadFrame place why; from = 0; news = [] }
+abbrev pub refusal : ℕ → Why → ReplyParts
+refusal place why = reply_telling (outcomes.BadFrame place why) 0 []
 
 -- after an exchange of renderer x, as renderer r sees it
 abbrev pub world_after : ℕ → ℕ → World → Decision → World
-world_after r x w d = record { log = d.entries ++ w.log; heard = if x == r && tells d.outcome then length (d.entries ++ w.log) else w.heard }
+world_after r x w d = record { log = d.entries ++ w.log; heard = if x == r then w.heard + length (reply_of r w d).news else w.heard }
 
 -- the replies to renderer r, in order
-unfoldable pub replies : Rules → ℕ → List Event → World → List Reply
+unfoldable pub replies : Rules → ℕ → List Event → World → List ReplyParts
 replies rules r [] w = []
 replies rules r (Asked x request ∷ events) w =
     (if x == r then reply_of r w (exchange rules w.log x request) ∷ [] else []) ++ replies rules r events (world_after r x w (exchange rules w.log x request))

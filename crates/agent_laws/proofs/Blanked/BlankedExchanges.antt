@@ -18,8 +18,8 @@ use Rattle.agent_terms.specs.declared.request.Request.TheVariants as ask
 use Rattle.agent_terms.specs.declared.request.ReplyOutcome.TheVariants as reply
 use Rattle.coordinator_rules.specs.NextTask.{next_task, first_task, task_of, ends, is_over}
 use Rattle.coordinator_rules.specs.Navigation.{may_navigate, Choice, Existing, New, Nothing, choice}
-use Rattle.coordinator_rules.specs.Decision.{Rules, Decision, decide, exchange, end_of, is_in_fragment, asker_of, by, one, navigation, opener_entry, made_or_null, open_chosen, is_live, home_if_active}
-use Rattle.agent_laws.specs.Actors.{is_next}
+use Rattle.coordinator_rules.specs.Decision.{asking, Rules, Decision, decide, exchange, end_of, is_in_fragment, asker_of, by, one, navigation, opener_entry, made_or_null, open_chosen, is_live, home_if_active}
+use Rattle.agent_laws.specs.Actors.{has_no_asker}
 use Rattle.agent_laws.proofs.Logs.Exchanges.{exchange-asked, asked-decided, not_yours, unloaded}
 
 outcome_if : (test : Bool) (a b other : Decision) → a.outcome ≡ b.outcome → (if test then a else other).outcome ≡ (if test then b else other).outcome
@@ -27,7 +27,7 @@ outcome_if true a b other h = h
 outcome_if false a b other h = refl
 
 opened_outcome : (rules : Rules) (t : Tree) (f g : ℕ → List ℕ → Bool) (r asker : ℕ) (url : Option (List ℕ)) (name : List ℕ) (noopener user : Bool) (c : Choice)
-    → (open_chosen rules t f r asker url name noopener user c).outcome ≡ (open_chosen rules t g r asker url name noopener user c).outcome
+    → (open_chosen (asking rules t r asker noopener user) f url name c).outcome ≡ (open_chosen (asking rules t r asker noopener user) g url name c).outcome
 opened_outcome rules t f g r asker url name noopener user Nothing = refl
 opened_outcome rules t f g r asker url name noopener user New = refl
 opened_outcome rules t f g r asker None name noopener user (Existing n) = refl
@@ -60,7 +60,7 @@ asked_outcome rules t f g r q place false true = refl
 asked_outcome rules t f g r q place active false = refl
 
 -- the outcome of a request for anything but the next task is the same on a blanked log, whoever is kept
-pub outcome-blanked : (rules : Rules) (kept : ℕ → Bool) (log : List Entry) (r : ℕ) (q : Request) → is_next q ≡ false
+pub outcome-blanked : (rules : Rules) (kept : ℕ → Bool) (log : List Entry) (r : ℕ) (q : Request) → has_no_asker q ≡ false
     → (exchange rules (blanked kept log) r q).outcome ≡ (exchange rules log r q).outcome
 outcome-blanked rules kept log r q other =
     rw (exchange-asked rules (blanked kept log) r q other, exchange-asked rules log r q other, asked-decided rules (blanked kept log) r q, asked-decided rules log r q, tree_of-blanked kept log, end_of-blanked kept log (asker_of q))

@@ -213,6 +213,7 @@ perform_same t urls others registers stores d e met (step.Call of key args to us
 perform_same t urls others registers stores d e met (step.Frame text name sandbox to) = framed_same t urls others registers stores d (unwrap_or name []) (option_map_or flags_of sandbox 0) (if_any text) e
 perform_same t urls others registers stores d e met (step.Open text target noopener user to) = opened_same t urls others registers stores d target noopener user (if_any text) e
 perform_same t urls others registers stores d e met (step.Link text target rel user) = ap (λ (u : List ℕ). link_at d target (gives_no_opener rel target) user (read_page (Some u) text)) e
+perform_same t urls others registers stores d e met (step.Domain text) = refl
 perform_same t urls others registers stores d e met step.Sync = refl
 perform_same t urls others registers stores d e met (step.Drop index) = refl
 

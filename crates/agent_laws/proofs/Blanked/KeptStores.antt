@@ -185,6 +185,7 @@ perform_kept kept t urls registers stores others d agree holds (step.Call of key
 perform_kept kept t urls registers stores others d agree holds (step.Frame text name sandbox to) = framed_kept t urls registers stores others d (unwrap_or name []) (option_map_or flags_of sandbox 0) (if_any text)
 perform_kept kept t urls registers stores others d agree holds (step.Open text target noopener user to) = opened_kept t urls registers stores others d target noopener user (if_any text)
 perform_kept kept t urls registers stores others d agree holds (step.Link text target rel user) = refl
+perform_kept kept t urls registers stores others d agree holds (step.Domain text) = refl
 perform_kept kept t urls registers stores others d agree holds step.Sync = refl
 perform_kept kept t urls registers stores others d agree holds (step.Drop index) = refl
 

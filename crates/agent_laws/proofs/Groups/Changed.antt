@@ -122,6 +122,7 @@ perform_belongs t urls registers stores d closed here holds kept (step.Open text
 perform_belongs t urls registers stores d closed here holds kept (step.Link text target rel user) =
     linked_belongs t d target (gives_no_opener rel target) user (read_at (sight_with t urls registers stores) d text)
 perform_belongs t urls registers stores d closed here holds kept step.Sync = tt
+perform_belongs t urls registers stores d closed here holds kept (step.Domain text) = tt
 perform_belongs t urls registers stores d closed here holds kept (step.Drop index) = dropped_belongs t d (slice_get (children_of t d) index)
 
 -- a value that a step answers

@@ -1,6 +1,7 @@
 -- Every entry that an exchange, a start or a task adds keeps the tree closed.
 use Rattle.std.proofs.Common.{◌≡◌, ℕ, ◌+◌, ◌<◌, ◌^◌, List, [], ◌∷◌, ◌++◌, length, Option, Some, None, Bool, true, false, refl, ap, sym, subst, ◌∙◌, if◌then◌else◌, arith, inl, inr}
-use Rattle.std.specs.Prelude.{◌==◌, ◌||◌, ◌&&◌, unwrap_or}
+use Rattle.std.specs.Prelude.{◌==◌, ◌||◌, ◌&&◌, map, unwrap_or}
+use Rattle.std.specs.Char.{to_ascii_lowercase}
 use Rattle.std.proofs.lemmas.Bool.{false≢true}
 use Rattle.std.proofs.lemmas.Bool.Decides.{eqb_tells}
 use Rattle.origin_core.specs.declared.origin.Origin.{Origin}
@@ -17,9 +18,9 @@ use Rattle.agent_terms.specs.declared.request.Request.TheVariants as ask
 use Rattle.agent_terms.specs.declared.request.ReplyOutcome.TheVariants as reply
 use Rattle.coordinator_rules.specs.NextTask.{next_task, task_entry}
 use Rattle.coordinator_rules.specs.Navigation.{is_in, may_navigate, may_close, Choice, Existing, New, Nothing, choice}
-use Rattle.coordinator_rules.specs.Decision.{Rules, Decision, decide, exchange, asker_of, task_decision, by, one, navigation, new_window, made_or_null, opener_entry, or_sync, open_chosen, link_chosen, if_open, is_live, is_near}
+use Rattle.coordinator_rules.specs.Decision.{asking, Rules, Decision, decide, exchange, asker_of, task_decision, by, one, navigation, new_window, made_or_null, opener_entry, or_sync, open_chosen, link_chosen, if_open, is_live, is_near}
 use Rattle.single_agent.proofs.Admitted.{task_admitted}
-use Rattle.agent_laws.specs.Actors.{is_next}
+use Rattle.agent_laws.specs.Actors.{has_no_asker}
 use Rattle.agent_laws.specs.Wellness.{IsWell}
 use Rattle.agent_laws.specs.Belonging.{IsClosed}
 use Rattle.agent_laws.proofs.Logs.Lists.{in_below}
@@ -27,7 +28,7 @@ use Rattle.agent_laws.proofs.Logs.Entries.{entry, at_cases, at_self, open_next}
 use Rattle.agent_laws.proofs.Groups.Well.{as_top, as_frame, more_navs, well_at_step, admitted_well}
 use Rattle.agent_laws.proofs.Groups.Choices.{has_group, chosen_below}
 use Rattle.agent_laws.proofs.Logs.Older.{made_stays, group_stays, group_of_top}
-use Rattle.agent_laws.proofs.Logs.Exchanges.{decided_or_none, only_next}
+use Rattle.agent_laws.proofs.Logs.Exchanges.{decided_or_none, without_asker, domain_cases}
 use Rattle.agent_laws.proofs.Logs.Admitted.{exchange_admitted}
 use Rattle.agent_laws.proofs.Groups.Grouped.{group_same, same_from}
 use Rattle.agent_laws.proofs.Groups.Chosen.{chosen_in_group}
@@ -262,7 +263,7 @@ sync_opens t r asker n true h = (tt, tt)
 sync_opens t r asker n false h = (h, tt)
 
 chosen_opens : (rules : Rules) (t : Tree) (fragment : ℕ → List ℕ → Bool) (r asker : ℕ) (url : Option (List ℕ)) (name : List ℕ) (noopener user : Bool) → IsClosed t → asker < t.docs → (c : Choice) → ChoosesIn t asker c
-    → DecidesIn t (open_chosen rules t fragment r asker url name noopener user c)
+    → DecidesIn t (open_chosen (asking rules t r asker noopener user) fragment url name c)
 chosen_opens rules t fragment r asker url name noopener user closed there Nothing h = (tt, tt)
 chosen_opens rules t fragment r asker url name noopener user closed there New h = (window_opens rules t asker name noopener url closed there, tt)
 chosen_opens rules t fragment r asker None name noopener user closed there (Existing n) h =
@@ -273,10 +274,10 @@ chosen_opens rules t fragment r asker (Some url) name noopener user closed there
     (front_opens t r asker n (noopener || n == nav_of t asker) (navigation rules t (fragment n url) asker n url) (set_in t asker n closed there (h n refl).0 (h n refl).1) (navigation_opens rules t (fragment n url) asker n url))
     (tt, tt)
 
-link_opens : (rules : Rules) (t : Tree) (fragment : ℕ → List ℕ → Bool) (asker : ℕ) (url name : List ℕ) (noopener user : Bool) → IsClosed t → asker < t.docs → (c : Choice) → OpensIn t (link_chosen rules t fragment asker url name noopener user c)
-link_opens rules t fragment asker url name noopener user closed there Nothing = tt
-link_opens rules t fragment asker url name noopener user closed there New = window_opens rules t asker name noopener (Some url) closed there
-link_opens rules t fragment asker url name noopener user closed there (Existing n) =
+link_opens : (rules : Rules) (t : Tree) (r : ℕ) (fragment : ℕ → List ℕ → Bool) (asker : ℕ) (url name : List ℕ) (noopener user : Bool) → IsClosed t → asker < t.docs → (c : Choice) → OpensIn t (link_chosen (asking rules t r asker noopener user) fragment url name c)
+link_opens rules t r fragment asker url name noopener user closed there Nothing = tt
+link_opens rules t r fragment asker url name noopener user closed there New = window_opens rules t asker name noopener (Some url) closed there
+link_opens rules t r fragment asker url name noopener user closed there (Existing n) =
     opens_if t (may_navigate t (nav_of t asker) n user) (navigation rules t (fragment n url) asker n url) what.Sync (navigation_opens rules t (fragment n url) asker n url) tt
 
 live_opens : (t : Tree) (r asker doc : ℕ) (w : What) → OpensIn t w → DecidesIn t (if_open t r asker doc w)
@@ -294,7 +295,7 @@ decide_opens rules t fragment r (ask.Drop asker nav) closed there = (opens_if t 
 decide_opens rules t fragment r (ask.Open asker url name noopener user) closed there =
     chosen_opens rules t fragment r asker url name noopener user closed there (choice t (nav_of t asker) name noopener user) (asker_chooses t closed asker name noopener user there)
 decide_opens rules t fragment r (ask.Link asker url name noopener user) closed there =
-    (link_opens rules t fragment asker url name noopener user closed there (choice t (nav_of t asker) name noopener user), tt)
+    (link_opens rules t r fragment asker url name noopener user closed there (choice t (nav_of t asker) name noopener user), tt)
 decide_opens rules t fragment r (ask.Go asker doc url user) closed there =
     decides_if t (is_live t asker doc) (if may_navigate t (nav_of t asker) (nav_of t doc) user then one r asker (navigation rules t (fragment (nav_of t doc) url) asker (nav_of t doc) url) reply.Done else one r asker what.Sync (reply.Security 7)) (one r asker what.Sync reply.Done)
     (decides_if t (may_navigate t (nav_of t asker) (nav_of t doc) user) (one r asker (navigation rules t (fragment (nav_of t doc) url) asker (nav_of t doc) url) reply.Done) (one r asker what.Sync (reply.Security 7))
@@ -306,6 +307,8 @@ decide_opens rules t fragment r (ask.Close asker doc user) closed there =
     (opens_if t (is_live t asker doc && may_close t (nav_of t asker) (nav_of t doc) user) (what.Closing (nav_of t doc)) what.Sync tt tt, tt)
 decide_opens rules t fragment r (ask.Post asker doc target body) closed there =
     (opens_if t (is_near t asker doc) (what.Post doc (nav_of t asker) (origin_of t asker) target body) what.Sync tt tt, tt)
+decide_opens rules t fragment r (ask.Domain asker value) closed there = domain_cases (DecidesIn t) rules t r asker (map to_ascii_lowercase value) (λ n. (tt, tt)) (λ effective e f. (tt, tt))
+decide_opens rules t fragment r ask.More closed there = tt
 
 -- EXCHANGES
 
@@ -330,7 +333,7 @@ next_decides rules log r all short = task_decides (tree_of log) r (length log) (
 AllDecideIn : List Entry → Decision → Type 0
 AllDecideIn log d = DecidesIn (tree_of log) d
 
-request_decides : (rules : Rules) (log : List Entry) (r : ℕ) (q : Request) → is_next q ≡ false → IsClosed (tree_of log) → AllDecideIn log (exchange rules log r q)
+request_decides : (rules : Rules) (log : List Entry) (r : ℕ) (q : Request) → has_no_asker q ≡ false → IsClosed (tree_of log) → AllDecideIn log (exchange rules log r q)
 unfolding AllDecideIn
 request_decides rules log r q other closed =
     decided_or_none (AllDecideIn log) rules log r q other tt tt (λ been home active. decide_opens rules (tree_of log) _ r q closed (closed.well.shown (asker_of q) been))
@@ -338,10 +341,10 @@ request_decides rules log r q other closed =
 -- what an exchange says of openers
 pub exchange_opens : (rules : Rules) (log : List Entry) (r : ℕ) (q : Request) → AreAdmitted log → length log < 2 ^ 30 → IsClosed (tree_of log) → AllOpenIn (tree_of log) (exchange rules log r q).entries
 unfolding AllDecideIn
-exchange_opens rules log r q all short closed = by_kind (is_next q) refl
+exchange_opens rules log r q all short closed = by_kind (has_no_asker q) refl
   where
-    by_kind : (b : Bool) → is_next q ≡ b → DecidesIn (tree_of log) (exchange rules log r q)
-    by_kind true e = subst (λ (z : Request). DecidesIn (tree_of log) (exchange rules log r z)) (sym (only_next q e)) (next_decides rules log r all short)
+    by_kind : (b : Bool) → has_no_asker q ≡ b → DecidesIn (tree_of log) (exchange rules log r q)
+    by_kind true e = without_asker (DecidesIn (tree_of log)) rules log r q e (next_decides rules log r all short) tt
     by_kind false e = request_decides rules log r q e closed
 
 -- the entries of an exchange keep the tree closed

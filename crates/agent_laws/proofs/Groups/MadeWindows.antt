@@ -1,6 +1,7 @@
 -- A window that an exchange gives to a document is there, in the document's group.
 use Rattle.std.proofs.Common.{◌≡◌, ℕ, ◌+◌, ◌<◌, ◌^◌, List, [], ◌∷◌, ◌++◌, length, Option, Some, None, Bool, true, false, refl, ap, sym, subst, ◌∙◌, if◌then◌else◌, arith}
-use Rattle.std.specs.Prelude.{unwrap_or}
+use Rattle.std.specs.Prelude.{map, unwrap_or}
+use Rattle.std.specs.Char.{to_ascii_lowercase}
 use Rattle.origin_core.specs.Flags.{union}
 use Rattle.window_props.specs.declared.value.Value.TheVariants as value
 use Rattle.tree_log.specs.declared.entry.Entry.{Entry}
@@ -15,15 +16,15 @@ use Rattle.agent_terms.specs.declared.request.ReplyOutcome.{ReplyOutcome}
 use Rattle.agent_terms.specs.declared.request.ReplyOutcome.TheVariants as reply
 use Rattle.coordinator_rules.specs.NextTask.{next_task}
 use Rattle.coordinator_rules.specs.Navigation.{flags_in, may_navigate, Choice, Existing, New, Nothing, choice}
-use Rattle.coordinator_rules.specs.Decision.{Rules, Decision, decide, exchange, asker_of, task_decision, by, one, group_in, navigation, frame_entry, new_window, made_or_null, opener_entry, or_sync, open_chosen, is_live}
-use Rattle.agent_laws.specs.Actors.{is_next}
+use Rattle.coordinator_rules.specs.Decision.{asking, Rules, Decision, decide, exchange, asker_of, task_decision, by, one, group_in, navigation, frame_entry, new_window, made_or_null, opener_entry, or_sync, open_chosen, is_live}
+use Rattle.agent_laws.specs.Actors.{has_no_asker}
 use Rattle.agent_laws.specs.Wellness.{IsWell}
 use Rattle.agent_laws.specs.Belonging.{Belongs, IsClosed}
 use Rattle.agent_laws.proofs.Logs.Entries.{at_self}
 use Rattle.agent_laws.proofs.Groups.Well.{as_frame, more_docs, well_at_step}
 use Rattle.agent_laws.proofs.Groups.Choices.{has_group}
 use Rattle.agent_laws.proofs.Logs.Older.{group_of_doc, group_of_doc_stays, group_of_child, group_of_top}
-use Rattle.agent_laws.proofs.Logs.Exchanges.{decided_or_none, only_next}
+use Rattle.agent_laws.proofs.Logs.Exchanges.{decided_or_none, without_asker, domain_cases}
 use Rattle.agent_laws.proofs.Logs.Admitted.{exchange_admitted}
 use Rattle.agent_laws.proofs.Groups.Grouped.{same_from, belongs_grown}
 use Rattle.agent_laws.proofs.Groups.Closed.{ChoosesIn, asker_chooses}
@@ -120,7 +121,7 @@ makes_existing log es asker n false b nav all is =
     subst (λ (m : ℕ). Belongs (tree_of (es ++ log)) asker (value.Window m)) same (belongs_grown es log asker (value.Window n) all b)
 
 chosen_makes : (rules : Rules) (log : List Entry) (fragment : ℕ → List ℕ → Bool) (r asker : ℕ) (url : Option (List ℕ)) (name : List ℕ) (noopener user : Bool) → IsWell (tree_of log) → asker < (tree_of log).docs
-    → (c : Choice) → ChoosesIn (tree_of log) asker c → MakesIn log asker (open_chosen rules (tree_of log) fragment r asker url name noopener user c)
+    → (c : Choice) → ChoosesIn (tree_of log) asker c → MakesIn log asker (open_chosen (asking rules (tree_of log) r asker noopener user) fragment url name c)
 chosen_makes rules log fragment r asker url name noopener user well there Nothing h = makes_none log r asker what.Sync reply.Null (λ nav is. cc)
 chosen_makes rules log fragment r asker url name noopener user well there New h = makes_window rules log r asker name noopener url well there
 chosen_makes rules log fragment r asker None name noopener user well there (Existing n) h =
@@ -146,6 +147,8 @@ decide_makes rules log fragment r (ask.Name asker doc name) closed there =
 decide_makes rules log fragment r (ask.Disown asker doc) closed there =
     let t : Tree = tree_of log in
     none_twice log r asker (is_live t asker doc) (same_domain t asker doc) what.Sync (what.Opener (nav_of t doc) None) 8
+decide_makes rules log fragment r (ask.Domain asker value) closed there =
+    domain_cases (MakesIn log asker) rules (tree_of log) r asker (map to_ascii_lowercase value) (λ n nav all is. absurd cc) (λ effective e f nav all is. absurd cc)
 decide_makes rules log fragment r q closed there = λ nav all is. absurd cc
 
 -- EXCHANGES
@@ -161,7 +164,7 @@ next_makes : (rules : Rules) (log : List Entry) (r asker : ℕ) → MakesIn log 
 unfolding exchange
 next_makes rules log r asker = task_makes log asker r (length log) (next_task log r)
 
-request_makes : (rules : Rules) (log : List Entry) (r : ℕ) (q : Request) → is_next q ≡ false → IsClosed (tree_of log) → AllMakesIn log (asker_of q) (exchange rules log r q)
+request_makes : (rules : Rules) (log : List Entry) (r : ℕ) (q : Request) → has_no_asker q ≡ false → IsClosed (tree_of log) → AllMakesIn log (asker_of q) (exchange rules log r q)
 unfolding AllMakesIn
 request_makes rules log r q other closed =
     decided_or_none (AllMakesIn log (asker_of q)) rules log r q other (λ nav all is. absurd cc) (λ nav all is. absurd cc)
@@ -171,8 +174,8 @@ request_makes rules log r q other closed =
 pub made_belongs : (rules : Rules) (log : List Entry) (r : ℕ) (q : Request) (nav : ℕ) → AreAdmitted log → length log < 2 ^ 30 → IsClosed (tree_of log) → (exchange rules log r q).outcome ≡ reply.Made nav
     → Belongs (tree_of ((exchange rules log r q).entries ++ log)) (asker_of q) (value.Window nav)
 unfolding AllMakesIn
-made_belongs rules log r q nav all short closed is = by_kind (is_next q) refl nav (exchange_admitted rules log r q all short) is
+made_belongs rules log r q nav all short closed is = by_kind (has_no_asker q) refl nav (exchange_admitted rules log r q all short) is
   where
-    by_kind : (b : Bool) → is_next q ≡ b → MakesIn log (asker_of q) (exchange rules log r q)
-    by_kind true e = subst (λ (z : Request). MakesIn log (asker_of q) (exchange rules log r z)) (sym (only_next q e)) (next_makes rules log r (asker_of q))
+    by_kind : (b : Bool) → has_no_asker q ≡ b → MakesIn log (asker_of q) (exchange rules log r q)
+    by_kind true e = without_asker (MakesIn log (asker_of q)) rules log r q e (next_makes rules log r (asker_of q)) (λ nav all is. absurd cc)
     by_kind false e = request_makes rules log r q e closed

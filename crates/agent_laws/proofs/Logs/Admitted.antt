@@ -20,8 +20,8 @@ use Rattle.coordinator_rules.specs.NextTask.{load_waits, load_task, is_for, deli
 use Rattle.single_agent.proofs.Admitted.{task_admitted, start_admitted, started_admitted}
 use Rattle.single_agent.specs.LegalLog.{lost_entry, IsLegalLog, Started, Exchanged, Gave_up}
 use Rattle.coordinator_rules.specs.Decision.{Rules, rules_of, Decision, exchange, asker_of, task_decision}
-use Rattle.agent_laws.specs.Actors.{is_next}
-use Rattle.agent_laws.proofs.Logs.Exchanges.{only_next, decided_or_none}
+use Rattle.agent_laws.specs.Actors.{has_no_asker}
+use Rattle.agent_laws.proofs.Logs.Exchanges.{without_asker, decided_or_none}
 use Rattle.agent_laws.proofs.Groups.Well.{admitted_well}
 use Rattle.agent_laws.proofs.Logs.Steps.{is_maker, IsFit, Quietly, Starts, AreSteps, Steps, lt_true, asking_of, decide-steps}
 
@@ -126,7 +126,7 @@ next_steps rules log r all short = task_steps rules log r (length log) (next_tas
 AllSteps : Rules → List Entry → Decision → Type 0
 AllSteps rules log d = Steps rules log d
 
-request_steps : (rules : Rules) (log : List Entry) (r : ℕ) (q : Request) → is_next q ≡ false → AreAdmitted log → length log < 2 ^ 30 → AllSteps rules log (exchange rules log r q)
+request_steps : (rules : Rules) (log : List Entry) (r : ℕ) (q : Request) → has_no_asker q ≡ false → AreAdmitted log → length log < 2 ^ 30 → AllSteps rules log (exchange rules log r q)
 unfolding AllSteps
 request_steps rules log r q other all short =
     decided_or_none (AllSteps rules log) rules log r q other tt tt
@@ -135,10 +135,10 @@ request_steps rules log r q other all short =
 -- every entry of an exchange is of one of the kinds, and can follow the log
 pub exchange-steps : (rules : Rules) (log : List Entry) (r : ℕ) (q : Request) → AreAdmitted log → length log < 2 ^ 30 → Steps rules log (exchange rules log r q)
 unfolding AllSteps
-exchange-steps rules log r q all short = by_kind (is_next q) refl
+exchange-steps rules log r q all short = by_kind (has_no_asker q) refl
   where
-    by_kind : (b : Bool) → is_next q ≡ b → Steps rules log (exchange rules log r q)
-    by_kind true e = subst (λ (z : Request). Steps rules log (exchange rules log r z)) (sym (only_next q e)) (next_steps rules log r all short)
+    by_kind : (b : Bool) → has_no_asker q ≡ b → Steps rules log (exchange rules log r q)
+    by_kind true e = without_asker (Steps rules log) rules log r q e (next_steps rules log r all short) tt
     by_kind false e = request_steps rules log r q e all short
 
 steps_admitted : (rules : Rules) (log es : List Entry) → AreAdmitted log → AreSteps rules log es → AreAdmitted (es ++ log)

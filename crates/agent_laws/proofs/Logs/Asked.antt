@@ -18,12 +18,12 @@ use Rattle.agent_terms.specs.declared.request.Request.{Request}
 use Rattle.object_access.specs.Access.{Seen}
 use Rattle.coordinator_rules.specs.Decision.{asker_of}
 use Rattle.object_access.specs.StepAnswer.{Sight, request_for, performed, on_object, if_any, read_at, frame_at, frame_step, open_at, open_step, link_at, gives_no_opener, drop_step, perform}
-use Rattle.agent_laws.specs.Actors.{is_next}
+use Rattle.agent_laws.specs.Actors.{has_no_asker}
 
 -- the request is of document d, and not for a task
 pub record IsOf (d : ℕ) (q : Request) : Type 0 where
   pub asker : asker_of q ≡ d
-  pub other : is_next q ≡ false
+  pub other : has_no_asker q ≡ false
 
 -- what is asked, if anything, is asked by document d
 abbrev pub IsAskedBy : ℕ → Performed → Type 0
@@ -31,7 +31,7 @@ IsAskedBy d (Answer o) = Unit {0}
 IsAskedBy d (Ask q) = IsOf d q
 
 request_is_of : (d : ℕ) (user : Bool) (a : wish.Ask) → IsOf d (request_for d user a)
-unfolding is_next
+unfolding has_no_asker
 request_is_of d user (wish_of.Go doc page) = record { asker = refl; other = refl }
 request_is_of d user (wish_of.Name doc name) = record { asker = refl; other = refl }
 request_is_of d user (wish_of.Disown doc) = record { asker = refl; other = refl }
@@ -47,40 +47,40 @@ unfolding on_object
 object_by s d user of f = performed_by d user _
 
 frame_by : (d : ℕ) (name : List ℕ) (flags : ℕ) (read : Result (List ℕ) UrlError) → IsAskedBy d (frame_at d name flags read)
-unfolding is_next
+unfolding has_no_asker
 frame_by d name flags (Ok page) = record { asker = refl; other = refl }
 frame_by d name flags (Err url.SchemeOut) = tt
 frame_by d name flags (Err _) = record { asker = refl; other = refl }
 
 framed_by : (s : Sight) (d : ℕ) (name : List ℕ) (flags : ℕ) (text : Option (List ℕ)) → IsAskedBy d (frame_step s d name flags text)
-unfolding frame_step is_next
+unfolding frame_step has_no_asker
 framed_by s d name flags None = record { asker = refl; other = refl }
 framed_by s d name flags (Some text) = frame_by d name flags (read_at s d text)
 
 open_by : (d : ℕ) (target : List ℕ) (noopener user : Bool) (read : Result (List ℕ) UrlError) → IsAskedBy d (open_at d target noopener user read)
-unfolding is_next
+unfolding has_no_asker
 open_by d target noopener user (Ok page) = record { asker = refl; other = refl }
 open_by d target noopener user (Err url.SchemeOut) = tt
 open_by d target noopener user (Err _) = tt
 
 opened_by : (s : Sight) (d : ℕ) (target : List ℕ) (noopener user : Bool) (text : Option (List ℕ)) → IsAskedBy d (open_step s d target noopener user text)
-unfolding open_step is_next
+unfolding open_step has_no_asker
 opened_by s d target noopener user None = record { asker = refl; other = refl }
 opened_by s d target noopener user (Some text) = open_by d target noopener user (read_at s d text)
 
 link_by : (d : ℕ) (target : List ℕ) (noopener user : Bool) (read : Result (List ℕ) UrlError) → IsAskedBy d (link_at d target noopener user read)
-unfolding is_next
+unfolding has_no_asker
 link_by d target noopener user (Ok page) = record { asker = refl; other = refl }
 link_by d target noopener user (Err url.SchemeOut) = tt
 link_by d target noopener user (Err _) = tt
 
 dropped_by : (d : ℕ) (nav : Option ℕ) → IsAskedBy d (drop_step d nav)
-unfolding is_next
+unfolding has_no_asker
 dropped_by d None = tt
 dropped_by d (Some nav) = record { asker = refl; other = refl }
 
 pub asked_by : (s : Sight) (d : ℕ) (does : Step) → IsAskedBy d (perform s d does)
-unfolding perform is_next
+unfolding perform has_no_asker
 asked_by s d (step.Let to given) = tt
 asked_by s d (step.Get of key to) = object_by s d false of _
 asked_by s d (step.Has of key) = object_by s d false of _
@@ -95,6 +95,7 @@ asked_by s d (step.Define of key given writable enumerable configurable) = objec
 asked_by s d (step.Delete of key) = object_by s d false of _
 asked_by s d (step.Call of key args to user) = object_by s d user of _
 asked_by s d step.Sync = record { asker = refl; other = refl }
+asked_by s d (step.Domain text) = record { asker = refl; other = refl }
 asked_by s d (step.Frame text name sandbox to) = framed_by s d (unwrap_or name []) (option_map_or flags_of sandbox 0) (if_any text)
 asked_by s d (step.Drop index) = dropped_by d (slice_get (children_of s.tree d) index)
 asked_by s d (step.Open text target noopener user to) = opened_by s d target noopener user (if_any text)

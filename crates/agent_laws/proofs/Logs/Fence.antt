@@ -1,6 +1,7 @@
 -- Who acts in the entries of an exchange.
 use Rattle.std.proofs.Common.{◌≡◌, ℕ, List, [], ◌∷◌, ◌++◌, Option, Some, None, Bool, true, false, refl, inl, inr}
-use Rattle.std.specs.Prelude.{◌⊎◌, ◌||◌, ◌==◌, if◌then◌else◌}
+use Rattle.std.specs.Prelude.{◌⊎◌, ◌||◌, ◌==◌, map, if◌then◌else◌}
+use Rattle.std.specs.Char.{to_ascii_lowercase}
 use Rattle.tree_log.specs.declared.entry.Entry.{Entry}
 use Rattle.tree_log.specs.declared.entry.What.{What}
 use Rattle.tree_log.specs.declared.entry.What.TheVariants as what
@@ -11,9 +12,9 @@ use Rattle.agent_terms.specs.declared.request.ReplyOutcome.{ReplyOutcome}
 use Rattle.agent_terms.specs.declared.request.ReplyOutcome.TheVariants as reply
 use Rattle.coordinator_rules.specs.NextTask.{next_task}
 use Rattle.coordinator_rules.specs.Navigation.{may_navigate, Choice, Existing, New, Nothing, choice}
-use Rattle.coordinator_rules.specs.Decision.{Rules, Decision, decide, exchange, asker_of, by, one, navigation, new_window, made_or_null, opener_entry, or_sync, open_chosen, is_live, task_decision}
-use Rattle.agent_laws.specs.Actors.{is_next, AreActedBy, IsFenced}
-use Rattle.agent_laws.proofs.Logs.Exchanges.{decided_or_none}
+use Rattle.coordinator_rules.specs.Decision.{asking, Rules, Decision, decide, exchange, asker_of, by, one, navigation, new_window, made_or_null, opener_entry, or_sync, open_chosen, is_live, task_decision}
+use Rattle.agent_laws.specs.Actors.{has_no_asker, AreActedBy, IsFenced}
+use Rattle.agent_laws.proofs.Logs.Exchanges.{decided_or_none, domain_cases}
 
 Acted : ℕ → Option ℕ → Decision → Type 0
 Acted r actor d = AreActedBy r actor d.entries
@@ -34,7 +35,7 @@ acted_sync : (r asker to n : ℕ) (b : Bool) → AreActedBy r (Some asker) (or_s
 acted_sync r asker to n true = ((refl, refl), tt)
 acted_sync r asker to n false = ((refl, refl), tt)
 
-acted_opened : (rules : Rules) (t : Tree) (f : ℕ → List ℕ → Bool) (r asker : ℕ) (url : Option (List ℕ)) (name : List ℕ) (noopener user : Bool) (c : Choice) → Acted r (Some asker) (open_chosen rules t f r asker url name noopener user c)
+acted_opened : (rules : Rules) (t : Tree) (f : ℕ → List ℕ → Bool) (r asker : ℕ) (url : Option (List ℕ)) (name : List ℕ) (noopener user : Bool) (c : Choice) → Acted r (Some asker) (open_chosen (asking rules t r asker noopener user) f url name c)
 unfolding Acted
 acted_opened rules t f r asker url name noopener user Nothing = acted_one r asker what.Sync reply.Null
 acted_opened rules t f r asker url name noopener user New = acted_one r asker (new_window rules t asker name noopener url) (made_or_null noopener t.navs)
@@ -58,13 +59,16 @@ decide-acted rules t f r (ask.Name asker doc name) =
     acted_twice r asker (is_live t asker doc) (same_domain t asker doc) (what.Name (nav_of t doc) name) reply.Done (reply.Security 8) reply.Done
 decide-acted rules t f r (ask.Disown asker doc) =
     acted_twice r asker (is_live t asker doc) (same_domain t asker doc) (what.Opener (nav_of t doc) None) reply.Done (reply.Security 8) reply.Done
+decide-acted rules t f r (ask.Domain asker value) =
+    domain_cases (Acted r (Some asker)) rules t r asker (map to_ascii_lowercase value) (λ n. acted_one r asker what.Sync (reply.Security n)) (λ effective e f'. acted_one r asker (what.Domain asker (map to_ascii_lowercase value)) reply.Done)
+decide-acted rules t f r ask.More = tt
 decide-acted rules t f r q = ((refl, refl), tt)
 
 FencedOrNone : List Entry → ℕ → Request → Decision → Type 0
 FencedOrNone log r q d = (d.entries ≡ []) ⊎ IsFenced log r q d.entries
 
 -- an exchange that adds entries has an active asker, which acts in each of them
-pub fence : (rules : Rules) (log : List Entry) (r : ℕ) (q : Request) → is_next q ≡ false → ((exchange rules log r q).entries ≡ []) ⊎ IsFenced log r q (exchange rules log r q).entries
+pub fence : (rules : Rules) (log : List Entry) (r : ℕ) (q : Request) → has_no_asker q ≡ false → ((exchange rules log r q).entries ≡ []) ⊎ IsFenced log r q (exchange rules log r q).entries
 unfolding FencedOrNone Acted
 fence rules log r q other =
     decided_or_none (FencedOrNone log r q) rules log r q other (inl refl) (inl refl)

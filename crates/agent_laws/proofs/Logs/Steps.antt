@@ -1,14 +1,16 @@
 -- The kinds of entries that exchanges add, and that each can follow the log.
 use Rattle.std.proofs.Common.{◌≡◌, ℕ, ◌+◌, ◌<◌, ◌≤◌, List, [], ◌∷◌, ◌++◌, length, Option, Some, None, Bool, true, false, refl, sym, subst, ◌∙◌, if◌then◌else◌, arith, eq-eqb}
-use Rattle.std.specs.Prelude.{◌||◌, ◌&&◌, ◌==◌, not, nat_lt, is_none}
+use Rattle.std.specs.Prelude.{◌||◌, ◌&&◌, ◌==◌, not, map, nat_lt, is_none}
+use Rattle.std.specs.Char.{to_ascii_lowercase}
 use Rattle.std.proofs.lemmas.Bool.Decides.{nat_tests}
 use Rattle.origin_core.specs.Flags.{union, has_navigation}
 use Rattle.origin_core.specs.Origin.{page_origin}
+use Rattle.origin_core.specs.Site.{fits as fits_domain}
 use Rattle.tree_log.specs.declared.entry.Entry.{Entry}
 use Rattle.tree_log.specs.declared.entry.Load.{Load}
 use Rattle.tree_log.specs.declared.entry.What.{What}
 use Rattle.tree_log.specs.declared.entry.What.TheVariants as what
-use Rattle.tree_log.specs.Tree.{Tree, tree_of, tree_after, tree_of_step, nav_of, origin_of, children_of, is_active, same_group, same_domain}
+use Rattle.tree_log.specs.Tree.{Tree, tree_of, tree_after, tree_of_step, nav_of, origin_of, domain_of, children_of, is_active, same_group, same_domain}
 use Rattle.tree_log.specs.Admits.{is_documents, has, has_if_any, is_next, is_next_load, admits_what, admits, AreAdmitted}
 use Rattle.tree_log.proofs.Admitted.{both, lt_of, few_of}
 use Rattle.agent_terms.specs.declared.request.Request.{Request}
@@ -16,8 +18,9 @@ use Rattle.agent_terms.specs.declared.request.Request.TheVariants as ask
 use Rattle.agent_terms.specs.declared.request.ReplyOutcome.TheVariants as reply
 use Rattle.single_agent.specs.Session.{start_entry}
 use Rattle.coordinator_rules.specs.Navigation.{flags_in, is_in, may_navigate, may_close, Choice, Existing, New, Nothing, choice}
-use Rattle.coordinator_rules.specs.Decision.{Rules, Decision, decide, asker_of, by, one, group_in, load_for, navigation, frame_entry, frame_load, window_load, window_flags, new_window, made_or_null, unless, opener_entry, or_sync, open_chosen, link_chosen, if_open, is_live, is_near}
+use Rattle.coordinator_rules.specs.Decision.{asking, Rules, Decision, decide, asker_of, by, one, group_in, load_for, navigation, frame_entry, frame_load, window_load, window_flags, new_window, made_or_null, unless, opener_entry, or_sync, open_chosen, link_chosen, if_open, is_live, is_near, is_address, effective_domain, domain_decision}
 use Rattle.agent_laws.specs.Wellness.{IsWell}
+use Rattle.agent_laws.proofs.Logs.Exchanges.{domain_cases}
 use Rattle.agent_laws.proofs.Logs.Lists.{in_below}
 use Rattle.agent_laws.proofs.Logs.Entries.{entry}
 use Rattle.agent_laws.proofs.Groups.Well.{more_docs, more_navs, admitted_well}
@@ -30,6 +33,7 @@ unfoldable pub is_maker : What → Bool
 is_maker (what.Open _ _ _ _ _ _ _ _ _ _) = true
 is_maker (what.Frame _ _ _ _ _ _ _) = true
 is_maker (what.Begin _ _) = true
+is_maker (what.Domain _ _) = true
 is_maker w = false
 
 pub data IsStep (rules : Rules) (t : Tree) : Entry → Type 0 where
@@ -38,6 +42,8 @@ pub data IsStep (rules : Rules) (t : Tree) : Entry → Type 0 where
   Frames : (r asker : ℕ) (name : List ℕ) (flags : ℕ) (url : Option (List ℕ)) → asker < t.docs → IsStep rules t (by r asker (frame_entry rules t asker name flags url))
   Windows : (r asker : ℕ) (name : List ℕ) (noopener : Bool) (url : Option (List ℕ)) → asker < t.docs → IsStep rules t (by r asker (new_window rules t asker name noopener url))
   Starts : (url : List ℕ) → IsStep rules t (start_entry rules t url)
+  Relaxes : (r asker : ℕ) (value effective : List ℕ) → asker < t.docs → effective_domain (origin_of t asker) (domain_of t asker) ≡ Some effective
+      → fits_domain value effective (is_address (origin_of t asker)) rules.suffixes ≡ true → IsStep rules t (by r asker (what.Domain asker value))
 
 -- the entry is of one of these kinds, and can follow the log
 abbrev pub IsFit : Rules → Tree → Entry → Type 0
@@ -224,7 +230,7 @@ sync_steps rules log r asker n true a lt = (sync_fits rules (tree_of log) r aske
 sync_steps rules log r asker n false a lt = (opener_fits rules (tree_of log) r asker n (nav_of (tree_of log) asker) a lt (a.well.below asker a.there), tt)
 
 steps_opened : (rules : Rules) (log : List Entry) (fragment : ℕ → List ℕ → Bool) (r asker : ℕ) (url : Option (List ℕ)) (name : List ℕ) (noopener user : Bool) → AreAdmitted log → length log < 1073741825 → IsAsking (tree_of log) asker
-    → (c : Choice) → IsChoiceBelow (tree_of log).navs c → Steps rules log (open_chosen rules (tree_of log) fragment r asker url name noopener user c)
+    → (c : Choice) → IsChoiceBelow (tree_of log).navs c → Steps rules log (open_chosen (asking rules (tree_of log) r asker noopener user) fragment url name c)
 steps_opened rules log fragment r asker url name noopener user all short a Nothing h = (sync_fits rules (tree_of log) r asker a, tt)
 steps_opened rules log fragment r asker url name noopener user all short a New h = (window_fits rules (tree_of log) r asker name noopener url a, tt)
 steps_opened rules log fragment r asker None name noopener user all short a (Existing n) h = sync_steps rules log r asker n (noopener || n == nav_of (tree_of log) asker) a h
@@ -235,7 +241,7 @@ steps_opened rules log fragment r asker (Some url) name noopener user all short 
     (front_steps rules log (fragment n url) r asker n url (noopener || n == nav_of t asker) all short a h) (sync_fits rules t r asker a, tt)
 
 link_fits : (rules : Rules) (t : Tree) (fragment : ℕ → List ℕ → Bool) (r asker : ℕ) (url name : List ℕ) (noopener user : Bool) → IsAsking t asker → (c : Choice) → IsChoiceBelow t.navs c
-    → IsFit rules t (by r asker (link_chosen rules t fragment asker url name noopener user c))
+    → IsFit rules t (by r asker (link_chosen (asking rules t r asker noopener user) fragment url name c))
 link_fits rules t fragment r asker url name noopener user a Nothing h = sync_fits rules t r asker a
 link_fits rules t fragment r asker url name noopener user a New h = window_fits rules t r asker name noopener (Some url) a
 link_fits rules t fragment r asker url name noopener user a (Existing n) h =
@@ -254,6 +260,16 @@ steps_if_open rules log r asker doc w a fit =
     steps_then rules log (is_live t asker doc) (if same_domain t asker doc then one r asker w reply.Done else one r asker what.Sync (reply.Security 8)) (one r asker what.Sync reply.Done)
     (λ live. steps_if rules log (same_domain t asker doc) (one r asker w reply.Done) (one r asker what.Sync (reply.Security 8)) (fit (live_below t asker doc live), tt) (sync_fits rules t r asker a, tt))
     (sync_fits rules t r asker a, tt)
+
+AllStep : Rules → List Entry → Decision → Type 0
+AllStep rules log d = Steps rules log d
+
+domain_steps : (rules : Rules) (log : List Entry) (r asker : ℕ) (value : List ℕ) → IsAsking (tree_of log) asker → Steps rules log (domain_decision rules (tree_of log) r asker value)
+unfolding AllStep
+domain_steps rules log r asker value a =
+    let t : Tree = tree_of log in
+    domain_cases (AllStep rules log) rules t r asker value (λ n. (sync_fits rules t r asker a, tt))
+    (λ effective e f. ((Relaxes r asker value effective a.there e f, fits t r asker (what.Domain asker value) a (rw (acts t r asker a, lt_true asker t.docs a.there) refl)), tt))
 
 pub decide-steps : (rules : Rules) (log : List Entry) (fragment : ℕ → List ℕ → Bool) (r : ℕ) (q : Request) → AreAdmitted log → length log < 1073741825 → IsAsking (tree_of log) (asker_of q)
     → Steps rules log (decide rules (tree_of log) fragment r q)
@@ -301,3 +317,5 @@ decide-steps rules log fragment r (ask.Post asker doc target body) all short a =
           (sync_fits rules t r asker a),
       tt,
     )
+decide-steps rules log fragment r (ask.Domain asker value) all short a = domain_steps rules log r asker (map to_ascii_lowercase value) a
+decide-steps rules log fragment r ask.More all short a = tt

@@ -1,34 +1,36 @@
 -- Each entry of an exchange keeps documents homed, where no initial document acts.
-use Rattle.std.proofs.Common.{◌≡◌, ℕ, ◌+◌, ◌<◌, List, [], ◌∷◌, ◌++◌, Option, Some, None, Bool, true, false, refl, ap, ◌∙◌, sym, subst, if◌then◌else◌, arith, inl, inr}
-use Rattle.std.specs.Prelude.{◌⊎◌, ◌||◌, not, is_none, option_map, unwrap_or}
-use Rattle.std.proofs.lemmas.Bool.{false≢true, cases_lt}
+use Rattle.std.proofs.Common.{◌≡◌, ℕ, ◌+◌, ◌<◌, List, [], ◌∷◌, ◌++◌, Option, Some, None, Bool, true, false, refl, ap, ◌∙◌, sym, subst, if◌then◌else◌, arith, inl, inr, eq-eqb}
+use Rattle.std.specs.Prelude.{◌⊎◌, ◌||◌, ◌==◌, not, is_none, option_map, unwrap_or}
+use Rattle.std.proofs.lemmas.Bool.{false≢true, cases_lt, ne_eqb}
+use Rattle.std.proofs.lemmas.Bool.Decides.{eqb_tells}
 use Rattle.std.specs.Option.{option_or}
 use Rattle.origin_core.specs.declared.origin.Origin.{Origin}
 use Rattle.origin_core.specs.declared.origin.Origin.TheVariants.{Tuple, Opaque}
 use Rattle.origin_core.specs.Tuple.{TupleParts}
 use Rattle.origin_core.specs.Flags.{has_origin, has_navigation}
 use Rattle.origin_core.specs.Origin.{page_tuple, page_origin, loaded_origin, start_origin, frame_origin, window_origin}
-use Rattle.origin_core.specs.Site.{site_of}
+use Rattle.origin_core.specs.Site.{site_of, fits}
+use Rattle.origin_core.proofs.PageHost.{HasWebHost, page_host}
 use Rattle.tree_log.specs.declared.entry.Entry.{Entry}
 use Rattle.tree_log.specs.declared.entry.Load.{Load}
 use Rattle.tree_log.specs.declared.entry.What.{What}
-use Rattle.tree_log.specs.declared.entry.What.TheVariants.{Open, Frame, Begin}
+use Rattle.tree_log.specs.declared.entry.What.TheVariants.{Open, Frame, Begin, Domain}
 use Rattle.tree_log.specs.Facts.{at, Birth, Making, loads_of, with_load, bears_load}
-use Rattle.tree_log.specs.Tree.{Tree, tree_after, nav_of, home_of, origin_of, group_of}
+use Rattle.tree_log.specs.Tree.{Tree, tree_after, nav_of, home_of, origin_of, domain_of, group_of}
 use Rattle.tree_log.specs.Admits.{admits}
 use Rattle.tree_log.specs.Homes.{home_for}
 use Rattle.tree_log.proofs.Admitted.{born_stays}
 use Rattle.single_agent.specs.Session.{start_load, start_entry}
 use Rattle.coordinator_rules.specs.Navigation.{flags_in}
-use Rattle.coordinator_rules.specs.Decision.{Rules, by, group_in, load_for, frame_load, frame_entry, navigation, new_window, window_load, window_flags, window_name, unless}
+use Rattle.coordinator_rules.specs.Decision.{Rules, by, group_in, load_for, frame_load, frame_entry, navigation, new_window, window_load, window_flags, window_name, unless, effective_domain, is_address}
 use Rattle.agent_laws.specs.Wellness.{IsWell}
 use Rattle.log_laws.specs.Homes.{is_loaded}
 use Rattle.agent_laws.proofs.Logs.Entries.{entry, at_self, at_first, at_next}
 use Rattle.agent_laws.proofs.Groups.Well.{as_top, as_frame, well_at_step, more_docs}
 use Rattle.agent_laws.proofs.Groups.Choices.{has_group}
-use Rattle.agent_laws.proofs.Logs.Steps.{is_maker, IsStep, Quietly, Begins, Frames, Windows, Starts}
+use Rattle.agent_laws.proofs.Logs.Steps.{is_maker, IsStep, Quietly, Begins, Frames, Windows, Starts, Relaxes}
 use Rattle.agent_laws.proofs.Logs.Older.{group_of_doc, group_stays, group_of_doc_stays, group_of_child, group_of_top}
-use Rattle.log_laws.proofs.Homes.Homed.{IsLike, IsOriginFit, IsNewDoc, Initial_own, Initial_like, Loaded_new, IsGrown}
+use Rattle.log_laws.proofs.Homes.Homed.{IsLike, IsOriginFit, IsHostFit, MayHave, IsNewDoc, Initial_own, Initial_like, Loaded_new, IsGrown}
 
 abbrev birth_of : ℕ → Origin → ℕ → Bool → Birth
 birth_of nav origin home loaded = record { nav = nav; origin = origin; home = home; loaded = loaded }
@@ -40,6 +42,7 @@ record IsLoadFit (rules : Rules) (t : Tree) (g d : ℕ) (load : Load) : Type 0 w
   pub document : load.doc ≡ d
   pub homed : load.home ≡ home_for rules.renderers rules.suffixes t g (site_of load.origin rules.suffixes)
   pub fit : IsOriginFit t d load.origin
+  pub host : IsHostFit t load.origin
 
 -- the origin of what a loaded document loads
 origin_fit : (t : Tree) (sandboxed : Bool) (d asker : ℕ) (url : List ℕ) → asker < t.docs → is_loaded t asker ≡ true → IsOriginFit t d (loaded_origin sandboxed d (origin_of t asker) url)
@@ -50,12 +53,25 @@ origin_fit t false d asker url lt was k e = by_page (page_tuple url) e
     by_page None h = inr (asker, lt, was, h)
     by_page (Some tuple) h = absurd cc
 
+-- the host of what a document loads
+host_fit : (t : Tree) (sandboxed : Bool) (d asker : ℕ) (url : List ℕ) → asker < t.docs → IsHostFit t (loaded_origin sandboxed d (origin_of t asker) url)
+host_fit t true d asker url lt tuple e = absurd cc
+host_fit t false d asker url lt tuple e = by_page (page_tuple url) refl e
+  where
+    by_page : (o : Option TupleParts) → page_tuple url ≡ o → unwrap_or (option_map Tuple o) (origin_of t asker) ≡ Tuple tuple → HasWebHost tuple.host tuple.ip ⊎ ((a : ℕ) × (a < t.docs) × (origin_of t a ≡ Tuple tuple))
+    by_page None is h = inr (asker, lt, h)
+    by_page (Some page) is h = let same : page ≡ tuple = cc in inl (page_host url tuple (is ∙ ap Some same))
+
 load_fit : (rules : Rules) (t : Tree) (group flags d asker : ℕ) (url : List ℕ) → asker < t.docs → is_loaded t asker ≡ true → IsLoadFit rules t group d (load_for rules t group flags d asker url)
-load_fit rules t group flags d asker url lt was = record { document = refl; homed = refl; fit = origin_fit t (has_origin flags) d asker url lt was }
+load_fit rules t group flags d asker url lt was = record { document = refl; homed = refl; fit = origin_fit t (has_origin flags) d asker url lt was; host = host_fit t (has_origin flags) d asker url lt }
 
 start_fit : (rules : Rules) (t : Tree) (url : List ℕ) → IsLoadFit rules t t.groups (t.docs + 1) (start_load rules t url)
-start_fit rules t url = record { document = refl; homed = refl; fit = λ k e. by_page k (page_tuple url) e }
+start_fit rules t url = record { document = refl; homed = refl; fit = λ k e. by_page k (page_tuple url) e; host = λ tuple e. host_by_page tuple (page_tuple url) refl e }
   where
+    host_by_page : (tuple : TupleParts) (o : Option TupleParts) → page_tuple url ≡ o → unwrap_or (option_map Tuple o) (Opaque (t.docs + 1)) ≡ Tuple tuple → HasWebHost tuple.host tuple.ip ⊎ ((a : ℕ) × (a < t.docs) × (origin_of t a ≡ Tuple tuple))
+    host_by_page tuple None is h = absurd cc
+    host_by_page tuple (Some page) is h = let same : page ≡ tuple = cc in inl (page_host url tuple (is ∙ ap Some same))
+
     by_page : (k : ℕ) (o : Option TupleParts) → unwrap_or (option_map Tuple o) (Opaque (t.docs + 1)) ≡ Opaque k → (k ≡ t.docs + 1) ⊎ ((a : ℕ) × (a < t.docs) × (is_loaded t a ≡ true) × (origin_of t a ≡ Opaque k))
     by_page k None h = inl cc
     by_page k (Some tuple) h = absurd cc
@@ -75,6 +91,24 @@ frame_load_fit rules t asker flags (Some url) lt was = if_loads (is_none (page_o
 window_load_fit : (rules : Rules) (t : Tree) (asker group flags : ℕ) (url : Option (List ℕ)) → asker < t.docs → is_loaded t asker ≡ true → IsLoadFitIfAny rules t group (t.docs + 1) (window_load rules t asker group flags url)
 window_load_fit rules t asker group flags None lt was = tt
 window_load_fit rules t asker group flags (Some url) lt was = load_fit rules t group flags (t.docs + 1) asker url lt was
+
+-- DOMAINS
+
+abbrev KeepsDomains : Tree → Tree → Type 0
+KeepsDomains t s = (d : ℕ) → domain_of s d ≡ domain_of t d
+
+open_domains : (t : Tree) (b a : Option ℕ) (nav doc group home : ℕ) (origin : Origin) (name : List ℕ) (opener : Option ℕ) (flags : ℕ) (navigator : Option ℕ) (load : Option Load)
+    → KeepsDomains t (tree_after t (entry b a (Open nav doc group home origin name opener flags navigator load)))
+unfolding tree_after
+open_domains t b a nav doc group home origin name opener flags navigator load d = refl
+
+frame_domains : (t : Tree) (b a : Option ℕ) (nav doc home : ℕ) (origin : Origin) (name : List ℕ) (flags : ℕ) (load : Option Load) → KeepsDomains t (tree_after t (entry b a (Frame nav doc home origin name flags load)))
+unfolding tree_after
+frame_domains t b a nav doc home origin name flags load d = refl
+
+begin_domains : (t : Tree) (b a : Option ℕ) (nav : ℕ) (load : Load) → KeepsDomains t (tree_after t (entry b a (Begin nav load)))
+unfolding tree_after
+begin_domains t b a nav load d = refl
 
 -- A NEW NAVIGABLE
 
@@ -106,11 +140,11 @@ loaded_doc : (rules : Rules) (t s : Tree) (n d g : ℕ) (load : Load) → group_
 loaded_doc rules t s n d g load here born loads fit =
     let same_origin : origin_of s d ≡ load.origin = ap (λ (b : Birth). b.origin) born in
     Loaded_new g (ap (λ (b : Birth). b.loaded) born) (ap (group_of s) (ap (λ (b : Birth). b.nav) born) ∙ here)
-    (ap (λ (b : Birth). b.home) born ∙ fit.homed ∙ ap (λ (o : Origin). home_for rules.renderers rules.suffixes t g (site_of o rules.suffixes)) (sym same_origin)) (λ k h. fit.fit k (sym same_origin ∙ h)) loads
+    (ap (λ (b : Birth). b.home) born ∙ fit.homed ∙ ap (λ (o : Origin). home_for rules.renderers rules.suffixes t g (site_of o rules.suffixes)) (sym same_origin)) (λ k h. fit.fit k (sym same_origin ∙ h)) (λ tuple h. fit.host tuple (sym same_origin ∙ h)) loads
 
 nav_grown : (rules : Rules) (t : Tree) (e : Entry) (home : ℕ) (origin : Origin) (g : ℕ) (load : Option Load) → admits t e ≡ true → IsWell t → HasNewNav t (tree_after t e) home origin g load → IsWho t origin home g
-    → IsLoadFitIfAny rules t g (t.docs + 1) load → IsGrown rules t (tree_after t e)
-nav_grown rules t e home origin g None h well n who fit =
+    → IsLoadFitIfAny rules t g (t.docs + 1) load → KeepsDomains t (tree_after t e) → IsGrown rules t (tree_after t e)
+nav_grown rules t e home origin g None h well n who fit kept =
     let more : (tree_after t e).docs ≡ t.docs + 1 = n.docs ∙ (omega arith) in
     record {
       docs = more_docs t e;
@@ -118,8 +152,10 @@ nav_grown rules t e home origin g None h well n who fit =
       group = λ d lt. group_of_doc_stays t e h well d lt;
       new = λ d ge lt. let is : t.docs ≡ d = omega arith in subst (IsNewDoc rules t (tree_after t e)) is (initial_doc rules t (tree_after t e) home origin g None n who);
       loads = inl n.loads;
+      unset = λ d ge. kept d;
+      set = λ d lt. inl (kept d);
     }
-nav_grown rules t e home origin g (Some load) h well n who fit =
+nav_grown rules t e home origin g (Some load) h well n who fit kept =
     let more : (tree_after t e).docs ≡ t.docs + 2 = n.docs ∙ (omega arith) in
     let doc_is : load.doc ≡ t.docs + 1 = fit.document in
     let loads : (tree_after t e).loads ≡ t.loads ++ (t.docs + 1) ∷ [] = n.loads ∙ ap (λ (d : ℕ). t.loads ++ d ∷ []) doc_is in
@@ -132,6 +168,8 @@ nav_grown rules t e home origin g (Some load) h well n who fit =
         | inr same ↦ let is : t.docs ≡ d = omega arith in subst (IsNewDoc rules t (tree_after t e)) is (initial_doc rules t (tree_after t e) home origin g (Some load) n who)
       ];
       loads = inr (t.docs + 1, omega arith, omega arith, loads);
+      unset = λ d ge. kept d;
+      set = λ d lt. inl (kept d);
     }
 
 loading_born : (t : Tree) (nav home : ℕ) (origin : Origin) (load l : Load) → load ≡ l → l.doc ≡ t.docs + 1
@@ -185,7 +223,13 @@ unfolding is_maker tree_after
 quiet_counts t b a (Open _ _ _ _ _ _ _ _ _ _) q = absurd (false≢true (sym q))
 quiet_counts t b a (Frame _ _ _ _ _ _ _) q = absurd (false≢true (sym q))
 quiet_counts t b a (Begin _ _) q = absurd (false≢true (sym q))
+quiet_counts t b a (Domain _ _) q = absurd (false≢true (sym q))
 quiet_counts t b a w q = (refl, refl)
+
+quiet_domains : (t : Tree) (b a : Option ℕ) (w : What) → is_maker w ≡ false → KeepsDomains t (tree_after t (entry b a w))
+unfolding is_maker tree_after
+quiet_domains t b a (Domain _ _) q d = absurd (false≢true (sym q))
+quiet_domains t b a w q d = refl
 
 quiet_grown : (rules : Rules) (t : Tree) (b a : Option ℕ) (w : What) → is_maker w ≡ false → admits t (entry b a w) ≡ true → IsWell t → IsGrown rules t (tree_after t (entry b a w))
 quiet_grown rules t b a w q h well =
@@ -197,6 +241,8 @@ quiet_grown rules t b a w q h well =
       group = λ d lt. group_of_doc_stays t (entry b a w) h well d lt;
       new = λ d ge lt. absurd (omega arith);
       loads = inl same.1;
+      unset = λ d ge. quiet_domains t b a w q d;
+      set = λ d lt. inl (quiet_domains t b a w q d);
     }
 
 begin_counts : (t : Tree) (b a : Option ℕ) (n : ℕ) (load : Load) → ((tree_after t (entry b a (Begin n load))).docs ≡ t.docs + 1) × ((tree_after t (entry b a (Begin n load))).loads ≡ t.loads ++ load.doc ∷ [])
@@ -224,6 +270,8 @@ begin_grown rules t r asker n url lt there was h well =
       new = λ d ge lt_d. let is : t.docs ≡ d = omega arith in
           subst (IsNewDoc rules t (tree_after t e)) is (loaded_doc rules t (tree_after t e) n t.docs group.0 load (group_stays t e h well n lt ∙ group.1) (begin_born t (Some r) (Some asker) n load refl) counts.1 fit);
       loads = inr (t.docs, omega arith, omega arith, counts.1);
+      unset = λ d ge. begin_domains t (Some r) (Some asker) n load d;
+      set = λ d lt. inl (begin_domains t (Some r) (Some asker) n load d);
     }
 
 frame_who : (t : Tree) (asker g : ℕ) (b : Bool) → asker < t.docs → is_loaded t asker ≡ true → group_of_doc t asker ≡ Some g → IsWho t (frame_origin b t.docs (origin_of t asker)) (home_of t asker) g
@@ -235,6 +283,40 @@ window_who : (t : Tree) (asker g : ℕ) (b : Bool) → asker < t.docs → is_loa
 window_who t asker g true lt was group = inl refl
 window_who t asker g false lt was group =
     inr (asker, record { there = lt; was_loaded = was; same_origin = refl; same_home = refl; same_group = ap Some (ap (λ (o : Option ℕ). unwrap_or o 0) group) ∙ sym group })
+
+-- a domain that is set
+relaxed_counts : (t : Tree) (b a : Option ℕ) (doc : ℕ) (value : List ℕ) → ((tree_after t (entry b a (Domain doc value))).docs ≡ t.docs) × ((tree_after t (entry b a (Domain doc value))).loads ≡ t.loads)
+unfolding tree_after
+relaxed_counts t b a doc value = (refl, refl)
+
+domain_at : (t : Tree) (b a : Option ℕ) (doc : ℕ) (value : List ℕ) (d : ℕ) → domain_of (tree_after t (entry b a (Domain doc value))) d ≡ unwrap_or (at d doc (Some value)) (domain_of t d)
+unfolding tree_after
+domain_at t b a doc value d = refl
+
+domain_elsewhere : (t : Tree) (b a : Option ℕ) (doc : ℕ) (value : List ℕ) (d : ℕ) → (doc == d) ≡ false → domain_of (tree_after t (entry b a (Domain doc value))) d ≡ domain_of t d
+domain_elsewhere t b a doc value d other = domain_at t b a doc value d ∙ rw other refl
+
+domain_here : (t : Tree) (b a : Option ℕ) (doc : ℕ) (value : List ℕ) → domain_of (tree_after t (entry b a (Domain doc value))) doc ≡ Some value
+domain_here t b a doc value = domain_at t b a doc value doc ∙ rw (eq-eqb doc doc refl) refl
+
+relaxed_grown : (rules : Rules) (t : Tree) (r asker : ℕ) (value effective : List ℕ) → asker < t.docs → effective_domain (origin_of t asker) (domain_of t asker) ≡ Some effective
+    → fits value effective (is_address (origin_of t asker)) rules.suffixes ≡ true → admits t (by r asker (Domain asker value)) ≡ true → IsWell t → IsGrown rules t (tree_after t (by r asker (Domain asker value)))
+relaxed_grown rules t r asker value effective there is fit h well =
+    let e : Entry = by r asker (Domain asker value) in
+    let counts = relaxed_counts t (Some r) (Some asker) asker value in
+    let docs : (tree_after t e).docs ≡ t.docs = counts.0 in
+    record {
+      docs = more_docs t e;
+      born = λ d lt. born_stays t e d h lt;
+      group = λ d lt. group_of_doc_stays t e h well d lt;
+      new = λ d ge lt. absurd (omega arith);
+      loads = inl counts.1;
+      unset = λ d ge. domain_elsewhere t (Some r) (Some asker) asker value d (ne_eqb asker d (λ same. omega (arith, same, there, ge)));
+      set = λ d lt. elim (eqb_tells asker d) as (λ _. MayHave rules t d (domain_of (tree_after t e) d)) [
+        | inl p ↦ subst (λ x. MayHave rules t x (domain_of (tree_after t e) x)) p.1 (inr (value, effective, domain_here t (Some r) (Some asker) asker value, is, fit))
+        | inr p ↦ inl (domain_elsewhere t (Some r) (Some asker) asker value d p.0)
+      ];
+    }
 
 -- an entry of an exchange that no initial document acts
 pub step_grown : (rules : Rules) (t : Tree) (e : Entry) → IsWell t → IsStep rules t e → admits t e ≡ true → ((a : ℕ) → e.actor ≡ Some a → is_loaded t a ≡ true) → IsGrown rules t (tree_after t e)
@@ -248,6 +330,7 @@ step_grown rules t e well (Frames r asker name flags url there) h actors =
     (frame_new t r asker (home_of t asker) (frame_origin (has_origin flags) t.docs (origin_of t asker)) name flags load group.0 well there h group.1)
     (frame_who t asker group.0 (has_origin flags) there (actors asker refl) group.1)
     (subst (λ (g : ℕ). IsLoadFitIfAny rules t g (t.docs + 1) load) in_group (frame_load_fit rules t asker flags url there (actors asker refl)))
+    (frame_domains t (Some r) (Some asker) t.navs t.docs (home_of t asker) (frame_origin (has_origin flags) t.docs (origin_of t asker)) name flags load)
 step_grown rules t e well (Windows r asker name noopener url there) h actors =
     let n : ℕ = nav_of t asker in
     let found = has_group t well n (well.below asker there) in
@@ -257,7 +340,10 @@ step_grown rules t e well (Windows r asker name noopener url there) h actors =
     nav_grown rules t (by r asker (new_window rules t asker name noopener url)) (home_of t asker) origin group (window_load rules t asker group (window_flags t n) url) h well
     (open_new t (Some r) (Some asker) group (home_of t asker) origin (window_name name) (unless noopener n) (window_flags t n) navigator (window_load rules t asker group (window_flags t n) url))
     (window_who t asker found.0 noopener there (actors asker refl) found.1) (window_load_fit rules t asker group (window_flags t n) url there (actors asker refl))
+    (open_domains t (Some r) (Some asker) t.navs t.docs group (home_of t asker) origin (window_name name) (unless noopener n) (window_flags t n) navigator (window_load rules t asker group (window_flags t n) url))
 step_grown rules t e well (Starts url) h actors =
     let load : Load = start_load rules t url in
     nav_grown rules t (start_entry rules t url) load.home (start_origin t.docs) t.groups (Some load) h well
     (open_new t None None t.groups load.home (start_origin t.docs) [] None 0 None (Some load)) (inl refl) (start_fit rules t url)
+    (open_domains t None None t.navs t.docs t.groups load.home (start_origin t.docs) [] None 0 None (Some load))
+step_grown rules t e well (Relaxes r asker value effective there is fit) h actors = relaxed_grown rules t r asker value effective there is fit h well

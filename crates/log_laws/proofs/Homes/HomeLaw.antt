@@ -1,5 +1,5 @@
 -- In a legal log that no initial document acts in, documents that are open to one another have one home.
-use Rattle.std.proofs.Common.{◌≡◌, ℕ, ◌+◌, ◌<◌, ◌^◌, List, [], ◌∷◌, ◌++◌, length, Option, Some, None, true, ap, sym, subst, arith}
+use Rattle.std.proofs.Common.{◌≡◌, ℕ, ◌+◌, ◌<◌, ◌^◌, List, [], ◌∷◌, ◌++◌, length, Option, Some, None, true, refl, ap, sym, subst, arith}
 use Rattle.std.proofs.lemmas.Bool.{false≢true, eqb-true}
 use Rattle.tree_log.specs.declared.entry.Entry.{Entry}
 use Rattle.tree_log.specs.Tree.{Tree, tree_of, tree_after, tree_of_step, home_of, origin_of, nav_of, group_of, are_same, same_group, same_domain}
@@ -31,7 +31,7 @@ steps_homed rules log (e ∷ es) all steps actors homed =
 
 empty_homed : (rules : Rules) → AreHomed rules (tree_of [])
 unfolding tree_of
-empty_homed rules = record { below = tt; first = λ x l e. absurd (omega arith); initial = λ x l e. absurd (omega arith); own = λ x k l e. absurd (omega arith) }
+empty_homed rules = record { below = tt; first = λ x l e. absurd (omega arith); initial = λ x l e. absurd (omega arith); own = λ x k l e. absurd (omega arith); hosts = λ x tuple l e. absurd (omega arith); unset = λ x l. refl; domains = λ x tuple domain l e. absurd (omega arith) }
 
 started_homed : (rules : Rules) (log : List Entry) (urls : List (List ℕ)) → AreAdmitted log → length log + length urls < 2 ^ 30 → AreHomed rules (tree_of log) → AreHomed rules (tree_of (started rules log urls))
 started_homed rules log [] all few homed = homed

@@ -1,6 +1,7 @@
 -- The entries that end messages: each is the next task of its renderer on the log before it.
 use Rattle.std.proofs.Common.{◌≡◌, ℕ, List, [], ◌∷◌, ◌++◌, length, Option, Some, None, Bool, true, false, refl, sym, subst, ◌∙◌, inl, inr}
-use Rattle.std.specs.Prelude.{◌⊎◌, ◌==◌, ◌||◌, ◌&&◌, if◌then◌else◌}
+use Rattle.std.specs.Prelude.{◌⊎◌, ◌==◌, ◌||◌, ◌&&◌, map, if◌then◌else◌}
+use Rattle.std.specs.Char.{to_ascii_lowercase}
 use Rattle.std.proofs.lemmas.Bool.{false≢true}
 use Rattle.tree_log.specs.declared.entry.Entry.{Entry}
 use Rattle.tree_log.specs.declared.entry.What.{What}
@@ -15,9 +16,9 @@ use Rattle.single_agent.specs.Session.{starts_of, started, start_entry}
 use Rattle.coordinator_rules.specs.NextTask.{next_task}
 use Rattle.single_agent.specs.LegalLog.{IsLegalLog, Started, Exchanged, Gave_up, lost_entry}
 use Rattle.coordinator_rules.specs.Navigation.{is_in, may_navigate, may_close, Choice, Existing, New, Nothing, choice}
-use Rattle.coordinator_rules.specs.Decision.{Rules, rules_of, Decision, decide, exchange, asker_of, by, one, navigation, new_window, made_or_null, opener_entry, or_sync, open_chosen, link_chosen, is_live, is_near, task_decision}
-use Rattle.agent_laws.specs.Actors.{is_next}
-use Rattle.agent_laws.proofs.Logs.Exchanges.{only_next, decided_or_none}
+use Rattle.coordinator_rules.specs.Decision.{asking, Rules, rules_of, Decision, decide, exchange, asker_of, by, one, navigation, new_window, made_or_null, opener_entry, or_sync, open_chosen, link_chosen, is_live, is_near, task_decision}
+use Rattle.agent_laws.specs.Actors.{has_no_asker}
+use Rattle.agent_laws.proofs.Logs.Exchanges.{without_asker, decided_or_none, domain_cases}
 
 -- whether an entry ends a message
 unfoldable pub is_ending : What → Bool
@@ -83,7 +84,7 @@ decision_if log asker true c d h k = h
 decision_if log asker false c d h k = k
 
 opened_asked : (rules : Rules) (log : List Entry) (fragment : ℕ → List ℕ → Bool) (r asker : ℕ) (url : Option (List ℕ)) (name : List ℕ) (noopener user : Bool) (c : Choice)
-    → Asked log asker (open_chosen rules (tree_of log) fragment r asker url name noopener user c)
+    → Asked log asker (open_chosen (asking rules (tree_of log) r asker noopener user) fragment url name c)
 unfolding Asked
 opened_asked rules log fragment r asker url name noopener user Nothing = sync_asked log r asker reply.Null
 opened_asked rules log fragment r asker url name noopener user New = (window_asked rules (tree_of log) (tree_of log) asker asker name noopener url, tt)
@@ -94,11 +95,11 @@ opened_asked rules log fragment r asker (Some url) name noopener user (Existing 
     (record { entries = opener_entry t r asker noopener n ++ by r asker (navigation rules t (fragment n url) asker n url) ∷ []; outcome = made_or_null noopener n }) (one r asker what.Sync (reply.Security 7))
     (front_asked log r asker (nav_of t asker) n (noopener || n == nav_of t asker) (navigation rules t (fragment n url) asker n url) (navigation_asked rules t t (fragment n url) asker asker n url)) (sync_asked log r asker (reply.Security 7))
 
-link_asked : (rules : Rules) (t : Tree) (fragment : ℕ → List ℕ → Bool) (asker : ℕ) (url name : List ℕ) (noopener user : Bool) (c : Choice) → IsAsked t asker (link_chosen rules t fragment asker url name noopener user c)
+link_asked : (rules : Rules) (t : Tree) (r : ℕ) (fragment : ℕ → List ℕ → Bool) (asker : ℕ) (url name : List ℕ) (noopener user : Bool) (c : Choice) → IsAsked t asker (link_chosen (asking rules t r asker noopener user) fragment url name c)
 unfolding IsAsked
-link_asked rules t fragment asker url name noopener user Nothing = tt
-link_asked rules t fragment asker url name noopener user New = window_asked rules t t asker asker name noopener (Some url)
-link_asked rules t fragment asker url name noopener user (Existing n) =
+link_asked rules t r fragment asker url name noopener user Nothing = tt
+link_asked rules t r fragment asker url name noopener user New = window_asked rules t t asker asker name noopener (Some url)
+link_asked rules t r fragment asker url name noopener user (Existing n) =
     asked_if t asker (may_navigate t (nav_of t asker) n user) (navigation rules t (fragment n url) asker n url) what.Sync (λ may. navigation_asked rules t t (fragment n url) asker asker n url) tt
 
 decide_asked : (rules : Rules) (log : List Entry) (fragment : ℕ → List ℕ → Bool) (r : ℕ) (q : Request) → Asked log (asker_of q) (decide rules (tree_of log) fragment r q)
@@ -109,7 +110,7 @@ decide_asked rules log fragment r (ask.Frame asker name flags url) = (tt, tt)
 decide_asked rules log fragment r (ask.Drop asker nav) = let t : Tree = tree_of log in (asked_if t asker (is_in nav (children_of t asker)) (what.Drop nav) what.Sync (λ child. tt) tt, tt)
 decide_asked rules log fragment r (ask.Open asker url name noopener user) = opened_asked rules log fragment r asker url name noopener user (choice (tree_of log) (nav_of (tree_of log) asker) name noopener user)
 decide_asked rules log fragment r (ask.Link asker url name noopener user) =
-    (link_asked rules (tree_of log) fragment asker url name noopener user (choice (tree_of log) (nav_of (tree_of log) asker) name noopener user), tt)
+    (link_asked rules (tree_of log) r fragment asker url name noopener user (choice (tree_of log) (nav_of (tree_of log) asker) name noopener user), tt)
 decide_asked rules log fragment r (ask.Go asker doc url user) =
     let t : Tree = tree_of log in
     twice_asked log r asker (is_live t asker doc) (may_navigate t (nav_of t asker) (nav_of t doc) user) (navigation rules t (fragment (nav_of t doc) url) asker (nav_of t doc) url) reply.Done (reply.Security 7) reply.Done
@@ -126,12 +127,14 @@ decide_asked rules log fragment r (ask.Close asker doc user) =
 decide_asked rules log fragment r (ask.Post asker doc target body) =
     let t : Tree = tree_of log in
     (asked_if t asker (is_near t asker doc) (what.Post doc (nav_of t asker) (origin_of t asker) target body) what.Sync (λ near. (refl, near)) tt, tt)
+decide_asked rules log fragment r (ask.Domain asker value) = domain_cases (Asked log asker) rules (tree_of log) r asker (map to_ascii_lowercase value) (λ n. (tt, tt)) (λ effective e f. (tt, tt))
+decide_asked rules log fragment r ask.More = tt
 
 -- the entries of an exchange for anything but the next task, of a document that has been active
 BeenAsked : List Entry → ℕ → Decision → Type 0
 BeenAsked log asker d = (d.entries ≡ []) ⊎ ((((tree_of log).doc asker).been_active ≡ true) × AreAsked log asker d.entries)
 
-pub exchange_asked : (rules : Rules) (log : List Entry) (r : ℕ) (q : Request) → is_next q ≡ false
+pub exchange_asked : (rules : Rules) (log : List Entry) (r : ℕ) (q : Request) → has_no_asker q ≡ false
     → ((exchange rules log r q).entries ≡ []) ⊎ ((((tree_of log).doc (asker_of q)).been_active ≡ true) × AreAsked log (asker_of q) (exchange rules log r q).entries)
 unfolding BeenAsked Asked
 exchange_asked rules log r q other =
@@ -171,10 +174,10 @@ unfolding exchange
 next_taken rules log r taken = task_taken log r (length log) (next_task log r) refl taken
 
 exchange_taken : (rules : Rules) (log : List Entry) (r : ℕ) (q : Request) → AreTaken log → AreTaken ((exchange rules log r q).entries ++ log)
-exchange_taken rules log r q taken = by_kind (is_next q) refl
+exchange_taken rules log r q taken = by_kind (has_no_asker q) refl
   where
-    by_kind : (b : Bool) → is_next q ≡ b → AreTaken ((exchange rules log r q).entries ++ log)
-    by_kind true is = subst (λ (z : Request). AreTaken ((exchange rules log r z).entries ++ log)) (sym (only_next q is)) (next_taken rules log r taken)
+    by_kind : (b : Bool) → has_no_asker q ≡ b → AreTaken ((exchange rules log r q).entries ++ log)
+    by_kind true is = without_asker (λ (d : Decision). AreTaken (d.entries ++ log)) rules log r q is (next_taken rules log r taken) taken
     by_kind false is = elim (exchange_asked rules log r q is) as (λ _. AreTaken ((exchange rules log r q).entries ++ log)) [
       | inl none ↦ subst (λ (es : List Entry). AreTaken (es ++ log)) (sym none) taken
       | inr asked ↦ asked_taken log (asker_of q) (exchange rules log r q).entries asked.1 taken

@@ -4,7 +4,7 @@ use Rattle.std.specs.Prelude.{◌⊎◌, ◌&&◌, not, nat_lt}
 use Rattle.std.proofs.lemmas.Bool.{false≢true}
 use Rattle.tree_log.specs.declared.entry.Entry.{Entry}
 use Rattle.tree_log.specs.declared.entry.What.{What}
-use Rattle.tree_log.specs.declared.entry.What.TheVariants.{Open, Frame, Drop, Name, Begin, Commit, Fragment, Opener, Post, Closing, Sync}
+use Rattle.tree_log.specs.declared.entry.What.TheVariants.{Open, Frame, Drop, Name, Begin, Commit, Fragment, Opener, Post, Closing, Sync, Domain}
 use Rattle.tree_log.specs.Tree.{Tree, tree_of, tree_after, tree_of_step, nav_of, is_shown, is_discarded, is_active}
 use Rattle.tree_log.specs.Admits.{admits_what, admits, AreAdmitted}
 use Rattle.tree_log.proofs.Admitted.{both, what_admitted}
@@ -82,6 +82,7 @@ actor_active t (Some r) d (Begin _ _) h = (both (nat_lt d t.docs) (is_active t d
 actor_active t (Some r) d (Fragment _ _ _) h = (both (nat_lt d t.docs) (is_active t d) (first _ _ (first _ _ h))).1
 actor_active t (Some r) d (Opener _ _) h = (both (nat_lt d t.docs) (is_active t d) (first _ _ (first _ _ h))).1
 actor_active t (Some r) d (Post _ _ _ _ _) h = (both (nat_lt d t.docs) (is_active t d) (first _ _ (first _ _ h))).1
+actor_active t (Some r) d (Domain _ _) h = (both (nat_lt d t.docs) (is_active t d) (first _ _ h)).1
 actor_active t (Some r) d (Closing _) h = (both (nat_lt d t.docs) (is_active t d) (first _ _ h)).1
 actor_active t (Some r) d Sync h = (both (nat_lt d t.docs) (is_active t d) h).1
 actor_active t None d Sync h = absurd (false≢true h)

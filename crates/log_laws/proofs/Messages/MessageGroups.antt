@@ -25,12 +25,12 @@ use Rattle.coordinator_rules.specs.NextTask.{next_task, task_entry}
 use Rattle.object_access.specs.Registers.{written, message_written, task_written}
 use Rattle.object_access.specs.Values.{text}
 use Rattle.single_agent.specs.LegalLog.{IsLegalLog, Started, Exchanged, Gave_up}
-use Rattle.coordinator_rules.specs.Decision.{Rules, rules_of, exchange, asker_of, task_decision}
-use Rattle.agent_laws.specs.Actors.{is_next}
+use Rattle.coordinator_rules.specs.Decision.{Rules, rules_of, Decision, exchange, asker_of, task_decision}
+use Rattle.agent_laws.specs.Actors.{has_no_asker}
 use Rattle.agent_laws.specs.Belonging.{Belongs, RegistersBelong}
 use Rattle.log_laws.specs.Messages.{IsAtItsOwn}
 use Rattle.agent_laws.proofs.Groups.Written.{written_belongs}
-use Rattle.agent_laws.proofs.Logs.Exchanges.{only_next}
+use Rattle.agent_laws.proofs.Logs.Exchanges.{without_asker}
 use Rattle.agent_laws.specs.Wellness.{IsWell}
 use Rattle.agent_laws.proofs.Groups.Well.{more_docs, admitted_well}
 use Rattle.agent_laws.proofs.Groups.Grouped.{belongs_after, same_back}
@@ -92,10 +92,10 @@ unfolding exchange
 next_near rules log r near = decision_near log r (length log) (next_task log r) near
 
 exchange_near : (rules : Rules) (log : List Entry) (r : ℕ) (q : Request) → ArePostsNear log → ArePostsNear ((exchange rules log r q).entries ++ log)
-exchange_near rules log r q near = by_kind (is_next q) refl
+exchange_near rules log r q near = by_kind (has_no_asker q) refl
   where
-    by_kind : (b : Bool) → is_next q ≡ b → ArePostsNear ((exchange rules log r q).entries ++ log)
-    by_kind true is = subst (λ (z : Request). ArePostsNear ((exchange rules log r z).entries ++ log)) (sym (only_next q is)) (next_near rules log r near)
+    by_kind : (b : Bool) → has_no_asker q ≡ b → ArePostsNear ((exchange rules log r q).entries ++ log)
+    by_kind true is = without_asker (λ (d : Decision). ArePostsNear (d.entries ++ log)) rules log r q is (next_near rules log r near) near
     by_kind false is = elim (exchange_asked rules log r q is) as (λ _. ArePostsNear ((exchange rules log r q).entries ++ log)) [
       | inl none ↦ subst (λ (es : List Entry). ArePostsNear (es ++ log)) (sym none) near
       | inr asked ↦ all_asked_near log (asker_of q) (exchange rules log r q).entries asked.0 asked.1 near

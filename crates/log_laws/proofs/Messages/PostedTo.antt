@@ -309,6 +309,7 @@ step_posts s d (step.Define of key given writable enumerable configurable) = obj
 step_posts s d (step.Delete of key) = object_posts s d false of _ (λ p seen h. deleted_posts p seen (s.stores seen.object) key)
 step_posts s d (step.Call of key args to user) = object_posts s d user of _ (λ p seen h. called_posts p s.tree s.urls d seen (s.stores seen.object) key _ h.object_is)
 step_posts s d step.Sync = tt
+step_posts s d (step.Domain text) = tt
 step_posts s d (step.Frame text name sandbox to) = frame_posts s d _ _ (if_any text)
 step_posts s d (step.Drop index) = drop_posts s d (slice_get (children_of s.tree d) index)
 step_posts s d (step.Open text target noopener user to) = open_posts s d target noopener user (if_any text)

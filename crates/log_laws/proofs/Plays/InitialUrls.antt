@@ -1,6 +1,7 @@
 -- In a legal log a document that wasn't loaded has the URL `about:blank`, whatever its fragment.
 use Rattle.std.proofs.Common.{◌≡◌, ℕ, ◌+◌, ◌<◌, ◌^◌, List, [], ◌∷◌, ◌++◌, length, codes, Option, Some, None, Bool, true, false, refl, ap, ◌∙◌, sym, subst, ◌&&◌, ◌||◌, if◌then◌else◌, arith, inl, inr}
-use Rattle.std.specs.Prelude.{◌⊎◌, ◌==◌, nat_le, is_some, unwrap_or}
+use Rattle.std.specs.Prelude.{◌⊎◌, ◌==◌, map, nat_le, is_some, unwrap_or}
+use Rattle.std.specs.Char.{to_ascii_lowercase}
 use Rattle.std.proofs.lemmas.Slice.Eq.{bytes_eq-Decides}
 use Rattle.url.proofs.OnLiterals.{url_on_literals}
 use Rattle.origin_core.specs.Page.{without_fragment, fragment_of, is_same_but_fragment}
@@ -20,9 +21,9 @@ use Rattle.single_agent.specs.LegalLog.{lost_entry, IsLegalLog, Started, Exchang
 use Rattle.single_agent.specs.Session.{starts_of, started, start_entry}
 use Rattle.coordinator_rules.specs.NextTask.{next_task}
 use Rattle.coordinator_rules.specs.Navigation.{may_navigate, may_close, is_in, Choice, Existing, New, Nothing, choice}
-use Rattle.coordinator_rules.specs.Decision.{Rules, rules_of, Decision, decide, exchange, by, one, navigation, made_or_null, opener_entry, or_sync, open_chosen, link_chosen, is_live, is_near, is_in_fragment, task_decision}
-use Rattle.agent_laws.specs.Actors.{is_next}
-use Rattle.agent_laws.proofs.Logs.Exchanges.{only_next, decided_or_none}
+use Rattle.coordinator_rules.specs.Decision.{asking, domain_decision, Rules, rules_of, Decision, decide, exchange, by, one, navigation, made_or_null, opener_entry, or_sync, open_chosen, link_chosen, is_live, is_near, is_in_fragment, task_decision}
+use Rattle.agent_laws.specs.Actors.{has_no_asker}
+use Rattle.agent_laws.proofs.Logs.Exchanges.{without_asker, decided_or_none, domain_cases}
 use Rattle.agent_laws.proofs.Logs.Entries.{entry, at_cases}
 use Rattle.agent_laws.proofs.Logs.Admitted.{IsTask, Commits, Fires, Lapses, Closes, next_is_task, start_fits, started_length, exchange_admitted, longer, legal_admitted}
 use Rattle.log_laws.proofs.Plays.Commits.{WasLoaded, loaded_later, loads_now}
@@ -156,7 +157,7 @@ all_if log true c d h k = h
 all_if log false c d h k = k
 
 opened_so : (rules : Rules) (log : List Entry) (r asker : ℕ) (url : Option (List ℕ)) (name : List ℕ) (noopener user : Bool) (c : Choice)
-    → AreFragmentsOf log (open_chosen rules (tree_of log) (is_in_fragment (tree_of log) (url_of log)) r asker url name noopener user c).entries
+    → AreFragmentsOf log (open_chosen (asking rules (tree_of log) r asker noopener user) (is_in_fragment (tree_of log) (url_of log)) url name c).entries
 opened_so rules log r asker url name noopener user Nothing = (tt, tt)
 opened_so rules log r asker url name noopener user New = (tt, tt)
 opened_so rules log r asker None name noopener user (Existing n) = synced_so log r asker n (nav_of (tree_of log) asker) (noopener || n == nav_of (tree_of log) asker)
@@ -166,11 +167,11 @@ opened_so rules log r asker (Some url) name noopener user (Existing n) =
     all_if log (may_navigate t (nav_of t asker) n user) (record { entries = opener_entry t r asker noopener n ++ by r asker w ∷ []; outcome = made_or_null noopener n }) (one r asker what.Sync (reply.Security 7))
     (front_so log r asker n (nav_of t asker) (noopener || n == nav_of t asker) w (decided_so rules log asker n url)) (tt, tt)
 
-linked_so : (rules : Rules) (log : List Entry) (asker : ℕ) (url name : List ℕ) (noopener user : Bool) (c : Choice)
-    → IsFragmentOf (url_of log) (link_chosen rules (tree_of log) (is_in_fragment (tree_of log) (url_of log)) asker url name noopener user c)
-linked_so rules log asker url name noopener user Nothing = tt
-linked_so rules log asker url name noopener user New = tt
-linked_so rules log asker url name noopener user (Existing n) =
+linked_so : (rules : Rules) (log : List Entry) (r asker : ℕ) (url name : List ℕ) (noopener user : Bool) (c : Choice)
+    → IsFragmentOf (url_of log) (link_chosen (asking rules (tree_of log) r asker noopener user) (is_in_fragment (tree_of log) (url_of log)) url name c)
+linked_so rules log r asker url name noopener user Nothing = tt
+linked_so rules log r asker url name noopener user New = tt
+linked_so rules log r asker url name noopener user (Existing n) =
     let t : Tree = tree_of log in
     so_if log (may_navigate t (nav_of t asker) n user) (navigation rules t (is_in_fragment t (url_of log) n url) asker n url) what.Sync (decided_so rules log asker n url) tt
 
@@ -181,6 +182,13 @@ twice_so log r asker true true rule w h = (h, tt)
 twice_so log r asker true false rule w h = (tt, tt)
 twice_so log r asker false b rule w h = (tt, tt)
 
+DecidesSo : List Entry → Decision → Type 0
+DecidesSo log d = AreFragmentsOf log d.entries
+
+domain_so : (rules : Rules) (log : List Entry) (r asker : ℕ) (value : List ℕ) → AreFragmentsOf log (domain_decision rules (tree_of log) r asker value).entries
+unfolding DecidesSo
+domain_so rules log r asker value = domain_cases (DecidesSo log) rules (tree_of log) r asker value (λ n. (tt, tt)) (λ effective e f. (tt, tt))
+
 decide_so : (rules : Rules) (log : List Entry) (r : ℕ) (q : Request) → AreFragmentsOf log (decide rules (tree_of log) (is_in_fragment (tree_of log) (url_of log)) r q).entries
 unfolding decide
 decide_so rules log r ask.Next = tt
@@ -188,7 +196,7 @@ decide_so rules log r (ask.Sync asker) = (tt, tt)
 decide_so rules log r (ask.Frame asker name flags url) = (tt, tt)
 decide_so rules log r (ask.Drop asker nav) = (so_if log (is_in nav (children_of (tree_of log) asker)) (what.Drop nav) what.Sync tt tt, tt)
 decide_so rules log r (ask.Open asker url name noopener user) = opened_so rules log r asker url name noopener user (choice (tree_of log) (nav_of (tree_of log) asker) name noopener user)
-decide_so rules log r (ask.Link asker url name noopener user) = (linked_so rules log asker url name noopener user (choice (tree_of log) (nav_of (tree_of log) asker) name noopener user), tt)
+decide_so rules log r (ask.Link asker url name noopener user) = (linked_so rules log r asker url name noopener user (choice (tree_of log) (nav_of (tree_of log) asker) name noopener user), tt)
 decide_so rules log r (ask.Go asker doc url user) =
     let t : Tree = tree_of log in
     twice_so log r asker (is_live t asker doc) (may_navigate t (nav_of t asker) (nav_of t doc) user) 7 (navigation rules t (is_in_fragment t (url_of log) (nav_of t doc) url) asker (nav_of t doc) url)
@@ -201,6 +209,8 @@ decide_so rules log r (ask.Close asker doc user) =
     (so_if log (is_live (tree_of log) asker doc && may_close (tree_of log) (nav_of (tree_of log) asker) (nav_of (tree_of log) doc) user) (what.Closing (nav_of (tree_of log) doc)) what.Sync tt tt, tt)
 decide_so rules log r (ask.Post asker doc target body) =
     (so_if log (is_near (tree_of log) asker doc) (what.Post doc (nav_of (tree_of log) asker) (origin_of (tree_of log) asker) target body) what.Sync tt tt, tt)
+decide_so rules log r (ask.Domain asker value) = domain_so rules log r asker (map to_ascii_lowercase value)
+decide_so rules log r ask.More = tt
 
 -- EXCHANGES
 
@@ -218,20 +228,17 @@ next_so : (rules : Rules) (log : List Entry) (r : ℕ) → AreFragmentsOf log (e
 unfolding exchange
 next_so rules log r = taken_so log r (length log) (next_task log r) (next_is_task log r)
 
-DecidesSo : List Entry → Decision → Type 0
-DecidesSo log d = AreFragmentsOf log d.entries
-
-request_so : (rules : Rules) (log : List Entry) (r : ℕ) (q : Request) → is_next q ≡ false → DecidesSo log (exchange rules log r q)
+request_so : (rules : Rules) (log : List Entry) (r : ℕ) (q : Request) → has_no_asker q ≡ false → DecidesSo log (exchange rules log r q)
 unfolding DecidesSo
 request_so rules log r q other = decided_or_none (DecidesSo log) rules log r q other tt tt (λ been home active. decide_so rules log r q)
 
 -- an exchange's fragment navigations change fragments alone
 exchange_so : (rules : Rules) (log : List Entry) (r : ℕ) (q : Request) → AreFragmentsOf log (exchange rules log r q).entries
 unfolding DecidesSo
-exchange_so rules log r q = by_kind (is_next q) refl
+exchange_so rules log r q = by_kind (has_no_asker q) refl
   where
-    by_kind : (b : Bool) → is_next q ≡ b → AreFragmentsOf log (exchange rules log r q).entries
-    by_kind true e = subst (λ (z : Request). AreFragmentsOf log (exchange rules log r z).entries) (sym (only_next q e)) (next_so rules log r)
+    by_kind : (b : Bool) → has_no_asker q ≡ b → AreFragmentsOf log (exchange rules log r q).entries
+    by_kind true e = without_asker (DecidesSo log) rules log r q e (next_so rules log r) tt
     by_kind false e = request_so rules log r q e
 
 -- LEGAL LOGS

@@ -1,6 +1,7 @@
 -- A play's log is longer than a log may be by the losses of renderers alone.
 use Rattle.std.proofs.Common.{◌≡◌, ℕ, ◌+◌, ◌<◌, ◌≤◌, ◌^◌, List, [], ◌∷◌, ◌++◌, length, Option, Some, None, Bool, true, false, refl, sym, subst, if◌then◌else◌, arith, inl, inr}
-use Rattle.std.specs.Prelude.{◌⊎◌, ◌||◌, ◌&&◌, ◌==◌, not, IsTrue}
+use Rattle.std.specs.Prelude.{◌⊎◌, ◌||◌, ◌&&◌, ◌==◌, not, map, IsTrue}
+use Rattle.std.specs.Char.{to_ascii_lowercase}
 use Rattle.std.proofs.lemmas.Bool.{eq-eqb}
 use Rattle.std.proofs.lemmas.Bool.Decides.{nat_tests}
 use Rattle.tree_log.specs.declared.entry.Entry.{Entry}
@@ -20,7 +21,7 @@ use Rattle.agent_terms.specs.declared.act.Point.{Point}
 use Rattle.agent_terms.specs.declared.step.OpName.{OpName}
 use Rattle.single_agent.specs.Session.{starts_of, lose_of}
 use Rattle.coordinator_rules.specs.Navigation.{may_navigate, Choice, Existing, New, Nothing, choice}
-use Rattle.coordinator_rules.specs.Decision.{Rules, rules_of, Decision, decide, exchange, asker_of, home_if_active, by, one, navigation, made_or_null, opener_entry, or_sync, open_chosen, is_live, task_decision}
+use Rattle.coordinator_rules.specs.Decision.{asking, Rules, rules_of, Decision, decide, exchange, asker_of, home_if_active, by, one, navigation, made_or_null, opener_entry, or_sync, open_chosen, is_live, task_decision}
 use Rattle.object_access.specs.StepAnswer.{Sight, perform}
 use Rattle.single_agent.specs.LegalLog.{lost_entry}
 use Rattle.coordinator_rules.specs.NextTask.{next_task}
@@ -32,8 +33,8 @@ use Rattle.single_agent.specs.LostAct.{exchanged}
 use Rattle.single_agent.specs.NextAct.{MovesTo}
 use Rattle.single_agent.specs.Turns.{Turned, log_of, record_of, told_length, HasRoom, is_full, is_served, loses_next, needs_room, Plays, IsTurn, ArePlayed}
 use Rattle.agent_terms.specs.Limits.{most_entries}
-use Rattle.agent_laws.specs.Actors.{is_next}
-use Rattle.agent_laws.proofs.Logs.Exchanges.{only_next, decided_or_none}
+use Rattle.agent_laws.specs.Actors.{has_no_asker}
+use Rattle.agent_laws.proofs.Logs.Exchanges.{without_asker, decided_or_none, domain_cases}
 use Rattle.single_agent.proofs.Admitted.{starts_length}
 use Rattle.agent_laws.proofs.Logs.Asked.{IsAskedBy, asked_by}
 use Rattle.log_laws.proofs.Plays.Stopped.{how_many, at_most_all, stopped, none_starts, one_stops}
@@ -55,7 +56,7 @@ short_sync : (r asker n to : ℕ) (b : Bool) → length (or_sync r asker (if b t
 short_sync r asker n to true = omega arith
 short_sync r asker n to false = omega arith
 
-short_opened : (rules : Rules) (t : Tree) (f : ℕ → List ℕ → Bool) (r asker : ℕ) (url : Option (List ℕ)) (name : List ℕ) (noopener user : Bool) (c : Choice) → IsShort (open_chosen rules t f r asker url name noopener user c)
+short_opened : (rules : Rules) (t : Tree) (f : ℕ → List ℕ → Bool) (r asker : ℕ) (url : Option (List ℕ)) (name : List ℕ) (noopener user : Bool) (c : Choice) → IsShort (open_chosen (asking rules t r asker noopener user) f url name c)
 short_opened rules t f r asker url name noopener user Nothing = omega arith
 short_opened rules t f r asker url name noopener user New = omega arith
 short_opened rules t f r asker None name noopener user (Existing n) = short_sync r asker n (nav_of t asker) (noopener || n == nav_of t asker)
@@ -78,6 +79,7 @@ decide_short rules t f r (ask.Name asker doc name) =
     short_twice r asker (is_live t asker doc) (same_domain t asker doc) (what.Name (nav_of t doc) name) reply.Done (reply.Security 8) reply.Done
 decide_short rules t f r (ask.Disown asker doc) =
     short_twice r asker (is_live t asker doc) (same_domain t asker doc) (what.Opener (nav_of t doc) None) reply.Done (reply.Security 8) reply.Done
+decide_short rules t f r (ask.Domain asker value) = domain_cases IsShort rules t r asker (map to_ascii_lowercase value) (λ n. omega arith) (λ effective e f. omega arith)
 decide_short rules t f r q = omega arith
 
 -- nothing is added, or there is need for room and at most two entries are added
@@ -90,7 +92,7 @@ AddsFew t r q d = IsFew (is (home_if_active t (asker_of q)) r && is_active t (as
 both_hold : (t : Tree) (d r : ℕ) → (t.doc d).been_active ≡ true → home_of t d ≡ r → is_active t d ≡ true → (is (home_if_active t d) r && is_active t d) ≡ true
 both_hold t d r been home active = rw (been, active, eq-eqb (home_of t d) r home) refl
 
-exchange_few : (rules : Rules) (log : List Entry) (r : ℕ) (q : Request) → is_next q ≡ false → IsFew (is (home_if_active (tree_of log) (asker_of q)) r && is_active (tree_of log) (asker_of q)) (exchange rules log r q).entries
+exchange_few : (rules : Rules) (log : List Entry) (r : ℕ) (q : Request) → has_no_asker q ≡ false → IsFew (is (home_if_active (tree_of log) (asker_of q)) r && is_active (tree_of log) (asker_of q)) (exchange rules log r q).entries
 unfolding AddsFew
 exchange_few rules log r q other =
     decided_or_none (AddsFew (tree_of log) r q) rules log r q other (inl refl) (inl refl)
@@ -109,10 +111,10 @@ unfolding exchange
 next_short rules log r = task_short r (length log) (next_task log r)
 
 entries_short : (rules : Rules) (log : List Entry) (r : ℕ) (q : Request) → length (exchange rules log r q).entries ≤ 2
-entries_short rules log r q = by_kind (is_next q) refl
+entries_short rules log r q = by_kind (has_no_asker q) refl
   where
-    by_kind : (b : Bool) → is_next q ≡ b → length (exchange rules log r q).entries ≤ 2
-    by_kind true e = subst (λ (z : Request). length (exchange rules log r z).entries ≤ 2) (sym (only_next q e)) (next_short rules log r)
+    by_kind : (b : Bool) → has_no_asker q ≡ b → length (exchange rules log r q).entries ≤ 2
+    by_kind true e = without_asker (λ (d : Decision). length d.entries ≤ 2) rules log r q e (next_short rules log r) (omega arith)
     by_kind false e = few_short _ (exchange rules log r q).entries (exchange_few rules log r q e)
 
 exchanged_short : (rules : Rules) (log : List Entry) (r : ℕ) (o : Option Request) → length (exchanged rules log r o) ≤ 2

@@ -33,19 +33,21 @@ use Rattle.agent_terms.specs.declared.outcome.Outcome.{Outcome}
 use Rattle.agent_terms.specs.declared.outcome.Outcome.TheVariants as outcome
 use Rattle.object_access.specs.Registers.{to_of, value_in, task_written}
 use Rattle.object_access.specs.StepAnswer.{perform, step_stores, first_stores}
-use Rattle.coordinator_rules.specs.Decision.{rules_of, exchange, asker_of}
-use Rattle.single_agent.specs.Lengths.{newest_length, has_stopped}
+use Rattle.coordinator_rules.specs.Decision.{Rules, rules_of, exchange, asker_of}
+use Rattle.single_agent.specs.Lengths.{length_of, newest_length, has_stopped}
 use Rattle.single_agent.specs.Running.{starts, one_more, running, Left, left_on, step_left}
 use Rattle.single_agent.specs.Shown.{is_seen_by, shown_to, document_of, shown_stores}
 use Rattle.single_agent.specs.Sights.{registers_after, registers, stores_after, stores, sight}
-use Rattle.single_agent.specs.NextMove.{op_of, move_by, move_of, next_move}
+use Rattle.single_agent.specs.NextMove.{op_of, move_by, move_of, next_move, move_request}
 use Rattle.single_agent.specs.NextAct.{answer_of, MovesTo, IsActOn}
 use Rattle.single_agent.specs.LostAct.{lost_act, IsLostOn}
 use Rattle.single_agent.specs.LegalLog.{IsLegalLog}
-use Rattle.single_agent.specs.LegalRecord.{StandsIn, LegalActs, IsLegalRecord}
+use Rattle.agent_terms.specs.declared.request.Request.{Request}
+use Rattle.single_agent.specs.Heard.{heard_at, MayHear}
+use Rattle.single_agent.specs.LegalRecord.{IsMadeOn, StandsIn, LegalActs, IsLegalRecord}
 use Rattle.single_agent.proofs.Grown.{Within, prefix_grown, running_grown, left_grown, registers_grown as registers_kept, stores_grown as stores_kept}
 use Rattle.agent_laws.specs.Belonging.{Belongs, RegistersBelong, PropertyBelongs, StoresBelong, IsClosed}
-use Rattle.agent_laws.proofs.Groups.Grouped.{registers_grown, stores_grown, no_registers, platform_stores}
+use Rattle.agent_laws.proofs.Groups.Grouped.{belongs_grown, registers_grown, stores_grown, no_registers, platform_stores}
 use Rattle.agent_laws.proofs.Groups.Changed.{answer_belongs, changed_belongs}
 use Rattle.agent_laws.proofs.Groups.ClosedLogs.{closed_before_legal}
 use Rattle.agent_laws.proofs.Groups.Written.{left_doc, to_belongs, reply_belongs}
@@ -83,6 +85,11 @@ stores_later : (k n : ℕ) (log : List Entry) (held : Object → Store) → k �
 stores_later k n log held le within all h =
     let cut = prefix_front k n log le within in
     subst (λ (l : List Entry). StoresBelong (tree_of l) held) (sym cut.1) (stores_grown cut.0 (prefix k log) held (subst AreAdmitted cut.1 (admitted_before n log all)) h)
+
+belongs_later : (k n : ℕ) (log : List Entry) (d : ℕ) (v : Value) → k ≤ n → n ≤ length log → AreAdmitted log → Belongs (tree_of (prefix k log)) d v → Belongs (tree_of (prefix n log)) d v
+belongs_later k n log d v le within all h =
+    let cut = prefix_front k n log le within in
+    subst (λ (l : List Entry). Belongs (tree_of l) d v) (sym cut.1) (belongs_grown cut.0 (prefix k log) d v (subst AreAdmitted cut.1 (admitted_before n log all)) h)
 
 docs_later : (k n : ℕ) (log : List Entry) (d : ℕ) → k ≤ n → n ≤ length log → d < (tree_of (prefix k log)).docs → d < (tree_of (prefix n log)).docs
 docs_later k n log d le within h =
@@ -278,10 +285,10 @@ given_belongs s r more g older left at doc point op given own legal short closed
     ]
 
 -- the same, as the act stands in the log
-stands_belongs : (s : Session) (r : ℕ) (log : List Entry) (older : List Act) (rest : List Entry) (left : Left) (at doc : ℕ) (point : Point) (op : OpName) (given : AnswerOf) (own : List Entry)
-    → IsLegalLog s log → length log < 2 ^ 30 → LegalActs s r log older rest → Leaves s log older → step_left s log older ≡ Some left → StandsIn s r log older (StepAct at doc point op given) own
-    → Belongs (tree_of (prefix at log)) left.doc (value_in given)
-stands_belongs s r log older rest left at doc point op given own legal short acts h is stands =
+placed_belongs : (s : Session) (r : ℕ) (log : List Entry) (older : List Act) (rest : List Entry) (left : Left) (act : Act) (at doc : ℕ) (point : Point) (op : OpName) (given : AnswerOf) (own : List Entry)
+    → IsLegalLog s log → length log < 2 ^ 30 → LegalActs s r log older rest → Leaves s log older → step_left s log older ≡ Some left → (stands : StandsIn s r log older act own)
+    → IsActOn s r (prefix stands.before log) older (StepAct at doc point op given) own ⊎ IsLostOn s r (prefix stands.before log) older (StepAct at doc point op given) own → Belongs (tree_of (prefix at log)) left.doc (value_in given)
+placed_belongs s r log older rest left act at doc point op given own legal short acts h is stands made =
     let cut = front stands.before log in
     let g : List Entry = prefix stands.before log in
     let inside = stands.within in
@@ -295,7 +302,34 @@ stands_belongs s r log older rest left at doc point op given own legal short act
     (closed_before_legal s log stands.before legal short) (subst (λ (p : List Entry). IsClosed (tree_of p)) (sym same) (closed_before_legal s log (newest_length older) legal short))
     (admitted_before stands.before log (legal_admitted s log legal short)) within (subst (λ (l : List Entry). Leaves s l older) cut.1 h)
     (ap (λ n. prefix (n + length own) (cut.0 ++ g)) long ∙ sym (ap (prefix (stands.before + length own)) cut.1) ∙ stands.follow)
-    (sym (ap (λ (l : List Entry). step_left s l older) cut.1) ∙ is) stands.made)
+    (sym (ap (λ (l : List Entry). step_left s l older) cut.1) ∙ is) made)
+
+may_hear_more : (rules : Rules) (r : ℕ) (log : List Entry) (from : ℕ) (q : Option Request) (at heard : ℕ) → MayHear rules r log from q at heard → at ≤ heard
+may_hear_more rules r log from None at heard h = omega (arith, h)
+may_hear_more rules r log from (Some q) at heard h = h.0
+
+-- the same, where the renderer had heard more by the end of its exchange
+heard_belongs : (log : List Entry) (d : ℕ) (exact : Act) (at doc : ℕ) (point : Point) (op : OpName) (given : AnswerOf) → AreAdmitted log → StepAct at doc point op given ≡ heard_at at exact → length_of exact ≤ at → at ≤ length log
+    → ((a e : ℕ) (p : Point) (o : OpName) (answered : AnswerOf) → exact ≡ StepAct a e p o answered → Belongs (tree_of (prefix a log)) d (value_in answered)) → Belongs (tree_of (prefix at log)) d (value_in given)
+heard_belongs log d (StepAct a e p o answered) at doc point op given all same le within h =
+    let is : given ≡ answered = cc in
+    belongs_later a at log d (value_in given) le within all (subst (λ (x : AnswerOf). Belongs (tree_of (prefix a log)) d (value_in x)) (sym is) (h a e p o answered refl))
+heard_belongs log d (Task a kind place) at doc point op given all same le within h = absurd cc
+heard_belongs log d (LostTask a) at doc point op given all same le within h = absurd cc
+
+stands_belongs : (s : Session) (r : ℕ) (log : List Entry) (older : List Act) (rest : List Entry) (left : Left) (at doc : ℕ) (point : Point) (op : OpName) (given : AnswerOf) (own : List Entry)
+    → IsLegalLog s log → length log < 2 ^ 30 → LegalActs s r log older rest → Leaves s log older → step_left s log older ≡ Some left → StandsIn s r log older (StepAct at doc point op given) own
+    → Belongs (tree_of (prefix at log)) left.doc (value_in given)
+stands_belongs s r log older rest left at doc point op given own legal short acts h is stands = by_made stands.made
+  where
+    by_made : IsMadeOn s r (prefix stands.before log) older (StepAct at doc point op given) own ⊎ IsLostOn s r (prefix stands.before log) older (StepAct at doc point op given) own
+        → Belongs (tree_of (prefix at log)) left.doc (value_in given)
+    by_made (inl made) =
+        let le = may_hear_more (rules_of s) r (prefix stands.before log) (newest_length older) (move_request (next_move s (prefix stands.before log) older)) (length_of made.exact) at made.hears in
+        heard_belongs log left.doc made.exact at doc point op given (legal_admitted s log legal short) made.same le stands.no_longer
+        (λ a e p o answered same. placed_belongs s r log older rest left (StepAct at doc point op given) a e p o answered own legal short acts h is stands
+        (inl (subst (λ (x : Act). IsActOn s r (prefix stands.before log) older x own) same made.is)))
+    by_made (inr lost) = placed_belongs s r log older rest left (StepAct at doc point op given) at doc point op given own legal short acts h is stands (inr lost)
 
 -- one act more
 leaves_more : (s : Session) (r : ℕ) (log : List Entry) (older : List Act) (rest : List Entry) (act : Act) (own : List Entry) → IsLegalLog s log → length log < 2 ^ 30 → LegalActs s r log older rest → Leaves s log older
