@@ -1,10 +1,10 @@
 # Writes what a play of full-record.json prints. The page writes a value 199 times and then frames itself, so each document
-# makes 201 acts: its commit, its values and its frame. Two of them are entries of the log. The record stops at 20,000 acts:
-# 99 documents, and the commit and 100 values of the next.
+# makes 201 acts: its commit, its values and its frame. Two of them are entries of the log. The record stops at 40,000 acts:
+# 199 documents, and the commit of the next.
 BEGIN {
-    print "log 200"
+    print "log 400"
     print "0 - - open n0 d0 g0 home=0 origin=opaque:0 name=\"\" opener=- flags=- navigator=- load=d1 lhome=0 lorigin=https://a.test lurl=\"https://a.test/\""
-    for (place = 1; place < 200; place++) {
+    for (place = 1; place < 400; place++) {
         window = int((place - 1) / 2)
         doc = 2 * window + 1
         if (place % 2 == 1)
@@ -12,8 +12,8 @@ BEGIN {
         else
             print place " r0 d" doc " frame n" (window + 1) " d" (doc + 1) " home=0 origin=https://a.test name=\"\" flags=- load=d" (doc + 2) " lhome=0 lorigin=https://a.test lurl=\"https://a.test/\""
     }
-    print "record 0 20000"
-    for (act = 0; act < 20000; act++) {
+    print "record 0 40000"
+    for (act = 0; act < 40000; act++) {
         window = int(act / 201)
         doc = 2 * window + 1
         step = act % 201 - 1

@@ -4,7 +4,7 @@ ghost use Rattle.script_steps.specs.Reached.{Fits, IsValueThere};
 
 use crate::steps::{HELD, step};
 use crate::texts::performed_text;
-use crate::tree::framed;
+use crate::tree::{framed, related};
 use agent_terms::{Ask, Outcome, Performed, Request, Step};
 use plain_data::Data;
 use script_steps::{Registers, Stores, local};
@@ -98,6 +98,17 @@ pub fn answers(alloc: Global, about: &str, calls: &str) -> Result<String, AllocE
         }
         _ => asked(alloc, &view, 1, Value::Plain(Data::Undefined), calls),
     }
+}
+
+/// What d3 is answered on the window n0, and then d1 on the window n2, as some documents have set their domain.
+pub fn related_answers(alloc: Global, setters: &[u32], calls: &str) -> Result<String, AllocError> {
+    let view = related(alloc, setters)?;
+    if view.docs() < 4 || view.navs() < 3 {
+        return String::from_str(alloc, "no such tree");
+    }
+    let sibling = asked(alloc, &view, 3, Value::Window(0), calls)?;
+    let alike = asked(alloc, &view, 1, Value::Window(2), calls)?;
+    format!(in alloc; "{}|{}", sibling.as_str(), alike.as_str())
 }
 
 fn went<V: View>(

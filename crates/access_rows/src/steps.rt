@@ -101,6 +101,9 @@ pub fn step(alloc: Global, op: &str, given: &str, key: &str) -> Result<Step, All
             rel: Text::copy_of(alloc, "")?,
             user: false,
         }),
+        "domain" => Ok(Step::Domain {
+            value: Text::copy_of(alloc, given)?,
+        }),
         _ => on_object(alloc, op, given, key),
     }
 }

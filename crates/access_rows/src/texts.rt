@@ -66,6 +66,8 @@ fn request_text(alloc: Global, request: Request) -> Result<String, AllocError> {
             let body = value_text(alloc, &Value::Plain(body))?;
             format!(in alloc; "post d{doc} {} {}", target.as_str(), body.as_str())
         }
+        Request::Domain { value, .. } => format!(in alloc; "domain {}", value.as_str()),
+        Request::More => String::from_str(alloc, "more"),
     }
 }
 

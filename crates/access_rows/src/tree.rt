@@ -1,4 +1,4 @@
-use origin_core::{Flags, Origin, PageUrl, read_url, url_origin};
+use origin_core::{Flags, HostText, Origin, PageUrl, read_url, url_origin};
 use plain_data::Text;
 use std::alloc::{AllocError, Global};
 use tree_log::{Entry, Load, What};
@@ -23,7 +23,8 @@ fn load(alloc: Global, doc: u32, home: u16, text: &str) -> Result<Load, AllocErr
     })
 }
 
-fn opened(alloc: Global) -> Result<What, AllocError> {
+// The window n0, which is to load the document d1.
+fn opened(alloc: Global, text: &str) -> Result<What, AllocError> {
     Ok(What::Open {
         nav: 0,
         doc: 0,
@@ -34,14 +35,15 @@ fn opened(alloc: Global) -> Result<What, AllocError> {
         opener: None,
         flags: Flags::from_bits(0),
         navigator: None,
-        load: Some(load(alloc, 1, 0, "https://a.test/")?),
+        load: Some(load(alloc, 1, 0, text)?),
     })
 }
 
+// A frame, whose initial document has the origin of its creator.
 fn frame(
     alloc: Global,
-    nav: u32,
-    doc: u32,
+    (nav, doc): (u32, u32),
+    creator: &str,
     name: &str,
     load: Option<Load>,
 ) -> Result<What, AllocError> {
@@ -49,7 +51,7 @@ fn frame(
         nav,
         doc,
         home: 0,
-        origin: origin(alloc, "https://a.test/")?,
+        origin: origin(alloc, creator)?,
         name: Text::copy_of(alloc, name)?,
         flags: Flags::from_bits(0),
         load,
@@ -73,20 +75,46 @@ fn commit(view: &mut PlainView, by: u16, nav: u32, doc: u32, begin: u32) -> Resu
     hear(view, Some(by), None, What::Commit { nav, doc, begin })
 }
 
+// The document d1 of a host in n0, with two frames of these names: n1, in which the document d3 was loaded, and n2 with its
+// initial document d4.
+fn with_frames(
+    alloc: Global,
+    host: &str,
+    (first, second): (&str, &str),
+    inner: Load,
+) -> Result<PlainView, AllocError> {
+    let mut view = PlainView::new(alloc);
+    let (by, home) = (Some(0), inner.home);
+    hear(&mut view, None, None, opened(alloc, host)?)?;
+    commit(&mut view, 0, 0, 1, 0)?;
+    let one = frame(alloc, (1, 2), host, first, Some(inner))?;
+    hear(&mut view, by, Some(1), one)?;
+    commit(&mut view, home, 1, 3, 2)?;
+    let other = frame(alloc, (2, 4), host, second, None)?;
+    hear(&mut view, by, Some(1), other)?;
+    Ok(view)
+}
+
 /// The document d1 of a.test in n0, with two frames: n1, named `x`, of b.test, whose initial document d2 is of a.test and
 /// no longer active, so that d3 is; and n2, named `y`, with its initial document d4 of a.test.
 pub fn framed(alloc: Global) -> Result<PlainView, AllocError> {
-    let mut view = PlainView::new(alloc);
-    hear(&mut view, None, None, opened(alloc)?)?;
-    commit(&mut view, 0, 0, 1, 0)?;
     let inner = load(alloc, 3, 1, "https://b.test/")?;
-    hear(
-        &mut view,
-        Some(0),
-        Some(1),
-        frame(alloc, 1, 2, "x", Some(inner))?,
-    )?;
-    commit(&mut view, 1, 1, 3, 2)?;
-    hear(&mut view, Some(0), Some(1), frame(alloc, 2, 4, "y", None)?)?;
+    with_frames(alloc, "https://a.test/", ("x", "y"), inner)
+}
+
+// A document sets its domain to a.test.
+fn relax(alloc: Global, view: &mut PlainView, doc: u32) -> Result<(), AllocError> {
+    let domain = HostText::copy_of(alloc, "a.test")?;
+    hear(view, Some(0), Some(doc), What::Domain { doc, domain })
+}
+
+/// The document d1 of x.a.test in n0, with two frames: n1, of d3 of y.a.test; and n2, with its initial document d4 of
+/// x.a.test. Each of `setters` has set its domain to a.test.
+pub fn related(alloc: Global, setters: &[u32]) -> Result<PlainView, AllocError> {
+    let inner = load(alloc, 3, 0, "https://y.a.test/")?;
+    let mut view = with_frames(alloc, "https://x.a.test/", ("", ""), inner)?;
+    for doc in setters {
+        relax(alloc, &mut view, *doc)?;
+    }
     Ok(view)
 }

@@ -4,6 +4,7 @@ ghost use Rattle.tree_view.specs.Shown.{tree_shown};
 
 use crate::making;
 use crate::pages::number;
+use origin_core::HostText;
 use plain_data::Text;
 use std::alloc::{AllocError, Global};
 use tree_log::{Entry, What};
@@ -71,6 +72,11 @@ fn act(
         "name" => {
             let name = Text::copy_of(alloc, page)?;
             hear(view, Some(0), own, What::Name { nav, name })
+        }
+        "domain" => {
+            let doc = view.active(nav);
+            let domain = HostText::copy_of(alloc, page)?;
+            hear(view, Some(0), own, What::Domain { doc, domain })
         }
         "opener" => hear(view, Some(0), own, making::opener(nav, page)),
         "closing" => hear(view, Some(0), own, What::Closing { nav }),

@@ -225,5 +225,9 @@ pub fn local<V: View>(
             rel,
             user,
         } => agent.link(url, target, rel, *user),
+        Step::Domain { value } => Ok(Performed::Ask(Request::Domain {
+            asker: doc,
+            value: value.clone()?,
+        })),
     }
 }

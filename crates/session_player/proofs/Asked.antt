@@ -63,6 +63,7 @@ never_refused r w l run q tied e asker other = let clash : true ≡ false = sym 
 no_task : (q : Request) → is_made q ≡ true → IsNoTask q
 unfolding is_made
 no_task ask.Next h = absurd cc
+no_task ask.More h = absurd cc
 no_task _ h = tt
 
 pub exchanged : (rules : Rules) (log : List Entry) (r : ℕ) (q : Request) → is_made q ≡ true → is_yours log r q ≡ true → exchange rules log r q ≡ asked_decision rules log r q
@@ -144,7 +145,7 @@ asked_acted s r doc point op q replied told given left xs ys at w v l m made a a
       λ n. a.room (active_if (is_yours l.log r q) (is_active (tree_of l.log) (asker_of q)) n),
       record {
         log = a.log ∙ ap (λ (d : Decision). d.entries ++ l.log) (sym same);
-        few = λ short. subst (λ (g : List Entry). length g ≤ 20000) (sym a.log) (asked_few (rules_of s) l.log r q short a.room);
+        few = λ short. subst (λ (g : List Entry). length g ≤ 40000) (sym a.log) (asked_few (rules_of s) l.log r q short a.room);
         given = given;
         gives = gives (asked_decision (rules_of s) l.log r q).outcome a.replies ∙ ap (λ (d : Decision). answer_of op d.outcome) (sym same);
         acts = new ∙ step_last xs ys (StepAct at doc point op given) pushed ∙ ap (λ k. StepAct k doc point op given ∷ reverse xs) (is_at ∙ all.heard)

@@ -73,7 +73,7 @@ fresh_keeps s r log = record {
   run = none_yet s log;
 }
 
-pub begins_underway : (s : Session) (l : Ledger) (seats : List Seat) → s.lose ≡ [] → l.log ≡ starts_of s → ((r : ℕ) → get_or l.told r 0 ≡ 0) → length l.told ≡ s.renderers → length seats ≡ s.renderers → AreFresh seats → length l.log ≤ 20000 → AreAdmitted l.log
+pub begins_underway : (s : Session) (l : Ledger) (seats : List Seat) → s.lose ≡ [] → l.log ≡ starts_of s → ((r : ℕ) → get_or l.told r 0 ≡ 0) → length l.told ≡ s.renderers → length seats ≡ s.renderers → AreFresh seats → length l.log ≤ 40000 → AreAdmitted l.log
     → IsUnderway s [] l seats
 begins_underway s l seats lossless log told many count are_fresh few all = record {
   lossless = lossless;

@@ -378,6 +378,7 @@ module _ (see : Sight) (d : ℕ) (q : Request) where
   made_by (step.Drop index) built e = dropped_made _ e
   made_by (step.Open text target noopener user to) built e = absurd cc
   made_by (step.Link text target rel user) built e = absurd cc
+  made_by (step.Domain text) built e = absurd cc
 
   stays : (st : Step) → is_built st ≡ true → perform see d st ≡ Ask q → step_stores see d st ≡ see.stores
   unfolding step_stores

@@ -56,7 +56,7 @@ still_numbered seats n x y numbered here within same r z at =
       | inr p ↦ numbered r z (sym (set_other seats n r y p.1) ∙ at)
     ]
 
-left_after : (seats : List Seat) (i : ℕ) (x y : Seat) → slice_get seats i ≡ Some x → acts_left (slice_set seats i y) + (20000 - length x.holds.acts) ≡ acts_left seats + (20000 - length y.holds.acts)
+left_after : (seats : List Seat) (i : ℕ) (x y : Seat) → slice_get seats i ≡ Some x → acts_left (slice_set seats i y) + (40000 - length x.holds.acts) ≡ acts_left seats + (40000 - length y.holds.acts)
 left_after [] i x y h = absurd cc
 left_after (z ∷ seats) zero x y h = let e : z ≡ x = cc in let f = ap (λ (q : Seat). length q.holds.acts) e in omega arith
 left_after (z ∷ seats) (suc i) x y h = omega (arith, left_after seats i x y h)
@@ -161,7 +161,7 @@ module _ (s : Session) (turns : List Turned) (tl : List ℕ) (m : Ledger) (seats
   -- one more turn of n
   more : (act : Option Act) (own : List Entry) → length x.holds.acts < most_acts → (IsTrue (needs_room (tree_of (log_of s turns)) n (next_move s (log_of s turns) (record_of n turns))) → HasRoom (log_of s turns))
       → Does s n (log_of s turns) (record_of n turns) (told_length s n turns) act own
-      → m.log ≡ own ++ log_of s turns → length m.log ≤ 20000 → (told' : ℕ) → told' ≡ (if is_exchange (next_move s (log_of s turns) (record_of n turns)) then length (own ++ log_of s turns) else told_length s n turns)
+      → m.log ≡ own ++ log_of s turns → length m.log ≤ 40000 → (told' : ℕ) → told' ≡ (if is_exchange (next_move s (log_of s turns) (record_of n turns)) then length (own ++ log_of s turns) else told_length s n turns)
       → get_or m.told n 0 ≡ told' → ((r : ℕ) → n ≢ r → get_or m.told r 0 ≡ get_or tl r 0) → length m.told ≡ length tl
       → Keeps s n (own ++ log_of s turns) (with_act act (record_of n turns)) told' y.holds
       → IsUnderway s (record { renderer = n; act = act; own = own } ∷ turns) m (slice_set seats n y)

@@ -17,7 +17,7 @@ use tree_view::View;
 use web_message::next_event;
 
 /// How many entries a log has at most.
-pub const MOST_ENTRIES: u32 = 20_000;
+pub const MOST_ENTRIES: u32 = 40_000;
 
 /// What a renderer is told: entries, the oldest first, and how long the log is with them.
 #[derive(Drop)]

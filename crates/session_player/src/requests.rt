@@ -172,7 +172,7 @@ pub fn asker_of(request: &Request) -> u32
     ensures { result ≡ spec.asker_of request.now }
 {
     match request {
-        Request::Next => 0,
+        Request::Next | Request::More => 0,
         Request::Sync { asker }
         | Request::Frame { asker, .. }
         | Request::Drop { asker, .. }
@@ -182,7 +182,8 @@ pub fn asker_of(request: &Request) -> u32
         | Request::Name { asker, .. }
         | Request::Disown { asker, .. }
         | Request::Close { asker, .. }
-        | Request::Post { asker, .. } => *asker,
+        | Request::Post { asker, .. }
+        | Request::Domain { asker, .. } => *asker,
     }
 }
 

@@ -39,7 +39,7 @@ use tree_view::View;
 use window_props::Value;
 
 /// How many acts a record has at most.
-pub const MOST_ACTS: usize = 20_000;
+pub const MOST_ACTS: usize = 40_000;
 
 /// What a step of a worker did.
 #[derive(Clone, Copy, Debug, PartialEq, Eq)]
@@ -157,6 +157,7 @@ fn name_of(step: &Step) -> OpName
         Step::Drop { .. } => OpName::Drop,
         Step::Open { .. } => OpName::Open,
         Step::Link { .. } => OpName::Link,
+        Step::Domain { .. } => OpName::Domain,
     }
 }
 

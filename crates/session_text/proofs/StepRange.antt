@@ -278,6 +278,7 @@ by_ok op.Frame f s e = frame_ok f s e
 by_ok op.Drop f s e = drop_ok f s e
 by_ok op.Open f s e = open_ok f s e
 by_ok op.Link f s e = link_ok f s e
+by_ok op.Domain f s e = absurd (let bad : ⊥ = cc in bad)
 
 built_ok : (a s : Step) → built_step a ≡ Ok s → (a ≡ s) × (is_built a ≡ true)
 unfolding built_step

@@ -64,6 +64,7 @@ IsStep (step.Frame url name sandbox to) = IfSome url IsText × IfSome name IsTex
 IsStep (step.Drop index) = IsIndex index
 IsStep (step.Open url target noopener user to) = IfSome url IsText × IsText target × IfSome to IsReceiver
 IsStep (step.Link url target rel user) = IsText url × IsText target × IsText rel
+IsStep (step.Domain value) = IsText value
 
 -- PAGES
 

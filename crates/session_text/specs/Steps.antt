@@ -175,6 +175,11 @@ index_alone f = do
 
 -- THE STEP BY ITS NAME
 
+-- a step that sessions can't have is refused at its name, as a name is that no step has
+abbrev pub refused_step : Outcome Step
+refused_step = under (Named (text_of its.Op)) unknown_step
+
+-- no session has a `domain` so far, so that its fields aren't read
 unfoldable pub step_by : OpName → Fields → Outcome Step
 step_by op.Let f = let_step f
 step_by op.Get f = get_step f
@@ -194,6 +199,7 @@ step_by op.Frame f = frame_step f
 step_by op.Drop f = index_alone f >>= λ index. Ok (step.Drop index)
 step_by op.Open f = open_step f
 step_by op.Link f = link_step f
+step_by op.Domain f = refused_step
 
 -- the name of a step
 unfoldable pub op_read : Json → Outcome OpName
@@ -203,9 +209,9 @@ op_read j = do
 
 -- a step that sessions may have so far
 unfoldable pub built_step : Step → Outcome Step
-built_step s = if is_built s then Ok s else under (Named (text_of its.Op)) unknown_step
+built_step s = if is_built s then Ok s else refused_step
 
--- the name first; whether sessions may have the step is tested once all of it was read
+-- the name first; whether sessions may have the step is tested once all of it was read, but for a `domain`
 unfoldable pub step_read : Json → Outcome Step
 step_read j = do
   f ← fields_of j

@@ -25,7 +25,8 @@ fn asks_where_called(key: &Key) -> bool
         || Platform::Replace.is_key(key)
 }
 
-/// Whether sessions may have the step so far: it doesn't navigate, name, close or post. It takes no memory.
+/// Whether sessions may have the step so far: it doesn't navigate, name, close or post, and sets no
+/// domain. It takes no memory.
 #[tactic(auto, unfolding(agent_terms::specs::Built::is_built))]
 pub fn built(step: &Step) -> bool
     ensures { result ≡ is_built step.now }
@@ -33,7 +34,7 @@ pub fn built(step: &Step) -> bool
     match step {
         Step::Set { key, .. } => !asks_where_set(key),
         Step::Call { key, .. } => !asks_where_called(key),
-        Step::Open { .. } | Step::Link { .. } => false,
+        Step::Open { .. } | Step::Link { .. } | Step::Domain { .. } => false,
         _ => true,
     }
 }

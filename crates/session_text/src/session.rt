@@ -260,7 +260,7 @@ fn session_of(alloc: Global, value: &Value) -> Result<Session, SessionError>
 /// it is about, and comes exactly where that is the first place that doesn't fit: an object's fields are read in
 /// the order above, those of a step in the order of its table, each to its end, items in order, and then an unknown
 /// field is looked for, the first by bytes. A step that sessions may not have yet is `UnknownStep` at its `op`, once
-/// all of it was read.
+/// all of it was read; a `domain` is at once, as a name is that no step has.
 /// At one place a missing field comes before a wrong kind, and that before a value out of its range. `NoMemory`
 /// comes where there was no memory.
 pub fn read_session(alloc: Global, bytes: &[u8]) -> Result<Session, SessionError>

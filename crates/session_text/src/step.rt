@@ -200,6 +200,13 @@ impl Reads for AnOpName {
     }
 }
 
+// The refusal of a step that sessions can't have, at its name.
+fn refused_step(alloc: Global) -> Result<Step, SessionError>
+    ensures { Gives result spec.refused_step }
+{
+    Err(unknown_step(alloc).in_field(alloc, Name::Op.text()))
+}
+
 #[tactic(auto, unfolding(crate::specs::Steps::step_by))]
 fn step_by(op: OpName, form: &mut Form<'_>) -> Result<Step, SessionError>
     ensures { Gives result (spec.step_by op (fields form.old)) }
@@ -247,6 +254,7 @@ fn step_by(op: OpName, form: &mut Form<'_>) -> Result<Step, SessionError>
         }),
         OpName::Open => open_step(form),
         OpName::Link => link_step(form),
+        OpName::Domain => refused_step(form.allocator()),
     }
 }
 
@@ -255,7 +263,7 @@ fn built_step(alloc: Global, step: Step) -> Result<Step, SessionError>
     ensures { Gives result (spec.built_step step) }
 {
     if !built(&step) {
-        return Err(unknown_step(alloc).in_field(alloc, Name::Op.text()));
+        return refused_step(alloc);
     }
     Ok(step)
 }

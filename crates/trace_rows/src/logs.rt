@@ -1,7 +1,7 @@
 ghost use Rattle.std.specs.Prelude.{IsTrue};
 ghost use Rattle.tree_log.specs.Range.{HasAscendingKeys};
 
-use origin_core::{Flags, Origin, PageUrl, flags_of, read_url, url_origin};
+use origin_core::{Flags, HostText, Origin, PageUrl, flags_of, read_url, url_origin};
 use plain_data::{Data, Items, Text, keys_ascend};
 use std::alloc::Global;
 use tree_log::{Cause, Entry, Load, Log, Target, What, blank, kept_for_renderer};
@@ -274,6 +274,79 @@ pub fn other_kinds(alloc: Global) -> Option<Log> {
         ),
         (Some(0), None, What::Gone { nav: 3 }),
         (None, None, What::Hidden),
+    ]
+    .ok()?;
+    log_of(alloc, happened)
+}
+
+/// A document has set its domain.
+fn domain(alloc: Global, doc: u32, text: &str) -> Option<What> {
+    let domain = HostText::copy_of(alloc, text).ok()?;
+    Some(What::Domain { doc, domain })
+}
+
+/// The log of a window that holds a frame of another host of its site, each of which sets its domain.
+pub fn with_domains(alloc: Global) -> Option<Log> {
+    let happened = vec![in alloc;
+        (
+            None,
+            None,
+            What::Open {
+                nav: 0,
+                doc: 0,
+                group: 0,
+                home: 0,
+                origin: Origin::Opaque(0),
+                name: text(alloc, "")?,
+                opener: None,
+                flags: Flags::from_bits(0),
+                navigator: None,
+                load: Some(Load {
+                    doc: 1,
+                    home: 0,
+                    origin: origin(alloc, "https://x.a.test/")?,
+                    url: page(alloc, "https://x.a.test/")?,
+                }),
+            }
+        ),
+        (
+            Some(0),
+            None,
+            What::Commit {
+                nav: 0,
+                doc: 1,
+                begin: 0
+            }
+        ),
+        (
+            Some(0),
+            Some(1),
+            What::Frame {
+                nav: 1,
+                doc: 2,
+                home: 0,
+                origin: origin(alloc, "https://x.a.test/")?,
+                name: text(alloc, "")?,
+                flags: Flags::from_bits(0),
+                load: Some(Load {
+                    doc: 3,
+                    home: 0,
+                    origin: origin(alloc, "https://y.a.test/")?,
+                    url: page(alloc, "https://y.a.test/")?,
+                }),
+            }
+        ),
+        (Some(0), Some(1), domain(alloc, 1, "a.test")?),
+        (
+            Some(0),
+            None,
+            What::Commit {
+                nav: 1,
+                doc: 3,
+                begin: 2
+            }
+        ),
+        (Some(0), Some(3), domain(alloc, 3, "a.test")?),
     ]
     .ok()?;
     log_of(alloc, happened)

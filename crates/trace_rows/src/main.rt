@@ -1,4 +1,4 @@
-//! Prints two small logs with every kind of entry, the first as two renderers may see it, a record with every step, answer and
+//! Prints three small logs with every kind of entry, the first as two renderers may see it, a record with every step, answer and
 //! task, and the line of each status.
 //!
 //! Its `stdout` has the lines that were written by hand from the formats (`docs/FORMATS.md`), so each run compares
@@ -21,7 +21,7 @@ const STATUSES: [Status; 8] = [
     Status::Session,
     Status::Read,
     Status::Write,
-    Status::LogFull(19_997),
+    Status::LogFull(39_997),
     Status::ActsFull(0),
     Status::Memory,
 ];
@@ -46,6 +46,7 @@ fn main(rt: HostRuntime) -> io::Result<()> {
         shown_run(alloc, 0),
         shown_run(alloc, 1),
         logs::other_kinds(alloc),
+        logs::with_domains(alloc),
         Some(Log::new(alloc)),
     ] {
         print!(rt; "{}", text_of(alloc, log)?.as_str())?;

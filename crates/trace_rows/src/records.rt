@@ -48,6 +48,7 @@ fn values(alloc: Global) -> Result<Acts, AllocError> {
     let location = Outcome::Value(Value::Location(3));
     let close = Outcome::Value(Value::Function(Method::Close, Object::Window(1)));
     let prototype = Outcome::Value(Value::Prototype(Kind::Window));
+    let nothing = Outcome::Value(Value::Plain(Data::Undefined));
     let rows = vec![in alloc;
         answers(0, OpName::Let, Outcome::Value(quote)),
         answers(1, OpName::Get, window),
@@ -56,6 +57,7 @@ fn values(alloc: Global) -> Result<Acts, AllocError> {
         answers(13, OpName::Proto, prototype),
         answers(14, OpName::SetProto, no),
         answers(15, OpName::Extensible, yes),
+        answers(25, OpName::Domain, nothing),
     ]?;
     Ok(rows)
 }
@@ -99,6 +101,9 @@ fn exceptions(alloc: Global) -> Result<Acts, AllocError> {
         answers(22, OpName::Open, Outcome::Syntax),
         answers(23, OpName::Link, Outcome::SchemeOut),
         answers(24, OpName::Link, Outcome::Security(Rule::S7)),
+        answers(26, OpName::Domain, Outcome::Security(Rule::S9)),
+        answers(27, OpName::Domain, Outcome::Security(Rule::S10)),
+        answers(28, OpName::Domain, Outcome::Security(Rule::S11)),
     ]?;
     Ok(rows)
 }

@@ -10,7 +10,7 @@ use Rattle.tree_log.specs.declared.entry.Load.{Load}
 use Rattle.tree_log.specs.declared.entry.Target.{Target}
 use Rattle.tree_log.specs.declared.entry.Cause.{Cause}
 use Rattle.tree_log.specs.declared.entry.What.{What}
-use Rattle.tree_log.specs.declared.entry.What.TheVariants.{Open, Frame, Drop, Name, Begin, Commit, Fragment, Opener, Post, Fire, Lapse, Closing, Gone, Lost, Sync, Hidden}
+use Rattle.tree_log.specs.declared.entry.What.TheVariants.{Open, Frame, Drop, Name, Begin, Commit, Fragment, Opener, Post, Fire, Lapse, Closing, Gone, Lost, Sync, Hidden, Domain}
 
 -- a letter and a number, as n1, or - where there is none
 abbrev pub numbered : List ℕ → Option ℕ → List ℕ
@@ -63,8 +63,9 @@ front_words (Gone nav) = codes "gone n" ◊ decimal nav
 front_words (Lost renderer) = codes "lost r" ◊ decimal renderer
 front_words Sync = codes "sync"
 front_words Hidden = codes "hidden"
+front_words (Domain doc domain) = codes "domain d" ◊ decimal doc
 
--- names, URLs, flags, loads and messages
+-- names, URLs, flags, loads, messages and domains
 unfoldable pub back_words : What → List ℕ
 back_words (Open nav doc group home origin name opener flags navigator load) =
     codes " name=" ◊ quoted name ◊ codes " opener=" ◊ numbered (codes "n") opener ◊ codes " flags=" ◊ flags_text flags
@@ -75,6 +76,7 @@ back_words (Name nav name) = codes " " ◊ quoted name
 back_words (Begin nav load) = begin_words load
 back_words (Fragment nav doc url) = codes " url=" ◊ quoted url
 back_words (Post to from origin target body) = codes " target=" ◊ target_words target ◊ codes " data=" ◊ data_text body
+back_words (Domain doc domain) = codes " " ◊ quoted domain
 back_words _ = []
 
 -- what happened, after the three columns that each line begins with

@@ -114,10 +114,11 @@ fn push_front(out: &mut String, what: &What) -> Result<(), AllocError>
         What::Lost { renderer } => write!(out, "lost r{renderer}"),
         What::Sync => out.push_str("sync"),
         What::Hidden => out.push_str("hidden"),
+        What::Domain { doc, .. } => write!(out, "domain d{doc}"),
     }
 }
 
-// Names, URLs, flags, loads and messages.
+// Names, URLs, flags, loads, messages and domains.
 #[tactic(auto, unfolding(crate::specs::LogText::back_words))]
 fn push_back(alloc: Global, out: &mut String, what: &What) -> Result<(), AllocError>
     ensures { OnOk result (string_bytes out.new ≡ string_bytes out.old ++ back_words what.now) }
@@ -164,6 +165,10 @@ fn push_back(alloc: Global, out: &mut String, what: &What) -> Result<(), AllocEr
             let body = text_of(alloc, body)?;
             let body = body.as_str();
             write!(out, " target={target} data={body}")
+        }
+        What::Domain { domain, .. } => {
+            let domain = quote(alloc, domain.as_str())?;
+            write!(out, " {domain}")
         }
         _ => Ok(()),
     }

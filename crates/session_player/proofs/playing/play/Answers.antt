@@ -8,7 +8,7 @@ use Rattle.session_player.proofs.playing.play.Goals as goal
 
 pub returns-in-Ended : goal.returns-in-Ended
 returns-in-Ended g c =
-    let few : length c.in_ok-desk.desk.log.entries ≤ 20000 = omega (arith, ap length c.in_ok-desk.ensures.log, starts_length c.args.session.now, c.requires.starts) in
+    let few : length c.in_ok-desk.desk.log.entries ≤ 40000 = omega (arith, ap length c.in_ok-desk.ensures.log, starts_length c.args.session.now, c.requires.starts) in
     let u = begins_underway c.args.session.now (ledger c.in_ok-desk.desk.log.entries c.in_ok-desk.desk.told.items) (seats_of g.V.View c.in_ok-workers.workers.items) c.requires.built.1 c.in_ok-desk.ensures.log c.in_ok-desk.ensures.told
     (omega (arith, c.in_ok-desk.ensures.count, c.in_ok-desk.desk.told.ok.0)) (map_length (seat_of g.V.View) c.in_ok-workers.workers.items ∙ c.in_ok-workers.ensures.count) c.in_ok-workers.ensures.fresh few c.in_ok-desk.desk.admitted in
     let e = rw c.in-Ended.is at (c.in_ok-play_order.ensures.kept u) in
@@ -16,14 +16,14 @@ returns-in-Ended g c =
 
 pub unreachable-requires : goal.unreachable-requires
 unreachable-requires g c =
-    let few : length c.in_ok-desk.desk.log.entries ≤ 20000 = omega (arith, ap length c.in_ok-desk.ensures.log, starts_length c.args.session.now, c.requires.starts) in
+    let few : length c.in_ok-desk.desk.log.entries ≤ 40000 = omega (arith, ap length c.in_ok-desk.ensures.log, starts_length c.args.session.now, c.requires.starts) in
     let u = begins_underway c.args.session.now (ledger c.in_ok-desk.desk.log.entries c.in_ok-desk.desk.told.items) (seats_of g.V.View c.in_ok-workers.workers.items) c.requires.built.1 c.in_ok-desk.ensures.log c.in_ok-desk.ensures.told
     (omega (arith, c.in_ok-desk.ensures.count, c.in_ok-desk.desk.told.ok.0)) (map_length (seat_of g.V.View) c.in_ok-workers.workers.items ∙ c.in_ok-workers.ensures.count) c.in_ok-workers.ensures.fresh few c.in_ok-desk.desk.admitted in
     rw c.in-BadReply.is at (c.in_ok-play_order.ensures.kept u)
 
 pub rounds-init : goal.rounds-init
 rounds-init g c =
-    let few : length c.in_ok-desk.desk.log.entries ≤ 20000 = omega (arith, ap length c.in_ok-desk.ensures.log, starts_length c.args.session.now, c.requires.starts) in
+    let few : length c.in_ok-desk.desk.log.entries ≤ 40000 = omega (arith, ap length c.in_ok-desk.ensures.log, starts_length c.args.session.now, c.requires.starts) in
     let u = begins_underway c.args.session.now (ledger c.in_ok-desk.desk.log.entries c.in_ok-desk.desk.told.items) (seats_of g.V.View c.in_ok-workers.workers.items) c.requires.built.1 c.in_ok-desk.ensures.log c.in_ok-desk.ensures.told
     (omega (arith, c.in_ok-desk.ensures.count, c.in_ok-desk.desk.told.ok.0)) (map_length (seat_of g.V.View) c.in_ok-workers.workers.items ∙ c.in_ok-workers.ensures.count) c.in_ok-workers.ensures.fresh few c.in_ok-desk.desk.admitted in
     let e = rw c.in-Acted.is at (c.in_ok-play_order.ensures.kept u) in

@@ -42,7 +42,7 @@ returns-in-Ask-clause-step g c =
     let made = step_made (sight_in w) doc step c.in-Ask.request c.in-Some.ensures.built performed in
     let stays : stores_then (Some left) w ≡ w.stores = unchanged_by_asking (sight_in w) doc step c.in-Ask.request c.in-Some.ensures.built performed in
     let same : stored c.local.new.stores ≡ w.stores = c.in_ok-performed-in-Some.ensures.left ∙ stays in
-    let few = few_acts c.args.self.now.acts.items 20000 (omega arith) in
+    let few = few_acts c.args.self.now.acts.items 40000 (omega arith) in
     if_ok c.asks.result _ _
     (λ turn ends tied. asked c.args.session.now c.args.self.now.renderer w v l m few turn left c.in-Ask.request c.in-Some.ensures.left.0 performed
     (subst (λ (props : Object → Store). AskEnds c.args.session.now c.args.self.now.renderer doc c.in-Some.run'.point (op_of step) c.in-Ask.request (with props) l turn v m) same
