@@ -1,7 +1,6 @@
 -- Rows that were those of a log are those of the log with one more entry, once it was taken in.
 use Rattle.std.proofs.Common.{◌≡◌, ℕ, ◌<◌, List, ◌∷◌, length, Option, Some, None, Bool, true, false, refl, sym, ap, subst, ◌∙◌, arith, inl, inr}
 use Rattle.std.specs.Prelude.{◌==◌, ◌&&◌, ◌||◌, not, if◌then◌else◌}
-use Rattle.std.specs.BTreeSet.{BTreeSet}
 use Rattle.std.specs.Coded.{Coded-set, coded_bool, coded_ℕ, coded_option}
 use Rattle.std.specs.Option.{option_or}
 use Rattle.std.proofs.lemmas.Bool.{eqb-true}
@@ -22,10 +21,12 @@ use Rattle.agent_laws.proofs.Logs.Admitted.{tested_is}
 use Rattle.agent_laws.proofs.Logs.Entries.{commit_there}
 use Rattle.agent_laws.proofs.Logs.Discarded.{seated_of}
 use Rattle.web_message.proofs.FirstTask.{stands_at}
+use Rattle.task_index.specs.declared.row.Row.{Row}
 use Rattle.task_index.specs.declared.waiting.Waiting.{Waiting}
-use Rattle.task_index.specs.Fed.{has, closing_in, first_closing, Counts, IsFed, IsKept, Stands, DueLoad, Due, IsTaken}
+use Rattle.task_index.specs.Fed.{has, has_early, has_message, holds_message, is_message_to, over_at, closing_in, first_closing, Counts, IsFed, IsKept, Stands, DueLoad, Due, IsTaken}
 use Rattle.task_index.proofs.FirstTasks.{closing_is}
 use Rattle.task_index.proofs.Later.{MovedWindow, task_back}
+use Rattle.task_index.proofs.Over.{later_ends, later_turns, new_turns, no_end, old_turns}
 
 -- WHAT STANDS
 
@@ -44,7 +45,7 @@ module _ (e : Entry) (log : List Entry) (all : AreAdmitted (e ∷ log)) where
 
 -- THE PLACE OF THE NEW ENTRY
 
-load_due : (t : Tree) (rows : List (BTreeSet ℕ)) (r place nav : ℕ) (load : Option Load) (task : What) → DueLoad rows place load → load_task t r place nav load ≡ Some task → has rows r place ≡ true
+load_due : (t : Tree) (rows : List Row) (r place nav : ℕ) (load : Option Load) (task : What) → DueLoad rows place load → load_task t r place nav load ≡ Some task → has rows r place ≡ true
 load_due t rows r place nav None task due k = absurd cc
 load_due t rows r place nav (Some load) task due k =
     let waits = (tested_is (load_waits t r nav load) _ task k).0 in
@@ -75,6 +76,10 @@ module _ (t : Tree) (over : ℕ → ℕ → Bool) (log : List Entry) (e : Entry)
       earlier q first same = let c = closing_is log nav q first in let lt = entry_below log q c.entry c.there in absurd (omega arith)
   here_due r w task closings is counts due k = absurd cc
 
+or_false : (b : Bool) → (b || false) ≡ b
+or_false true = refl
+or_false false = refl
+
 -- OLDER PLACES
 
 -- the first of two entries counts also in the shorter log
@@ -89,7 +94,7 @@ counts_older e log place (Closing nav) lt h = by_older (first_closing log nav) (
   by_older (Some q) p k other = k
 counts_older e log place w lt h = tt
 
-module _ (e : Entry) (log : List Entry) (all : AreAdmitted (e ∷ log)) (old new : Waiting) (fed : IsFed old log) (taken : IsTaken (tree_of (e ∷ log)) (length log) e.what old new) where
+module _ (e : Entry) (log : List Entry) (all : AreAdmitted (e ∷ log)) (old new : Waiting) (fed : IsFed old log) (taken : IsTaken log (tree_of (e ∷ log)) (length log) e.what old new) where
   moved_due : (r place : ℕ) (w : What) → Counts log place w → MovedWindow (tree_of (e ∷ log)) r e.what w → has new.rows.items r place ≡ true
   moved_due r place (Closing nav) counts moved =
       let due = subst (λ (v : What). Due (tree_of (e ∷ log)) (length log) v old new) moved.is taken.due in
@@ -103,7 +108,7 @@ module _ (e : Entry) (log : List Entry) (all : AreAdmitted (e ∷ log)) (old new
       let back = task_back (tree_of log) e all.0 (admitted_well log all.1) (seated_of log all.1) (is_over log) r place x.what task stands
       (subst (λ (t : Tree). task_of t (is_over (e ∷ log)) r place x.what ≡ Some task) (tree_of_step e log) k) in
       elim back as (λ _. has new.rows.items r place ≡ true) [
-        | inl was ↦ taken.places r place ((fed.tasks r).all place x was.task at counted was.is)
+        | inl was ↦ taken.places.places r place ((fed.tasks r).all place x was.task at counted was.is)
         | inr moved ↦ moved_due r place x.what counted (subst (λ (t : Tree). MovedWindow t r e.what x.what) (sym (tree_of_step e log)) moved)
       ]
 
@@ -124,18 +129,55 @@ module _ (e : Entry) (log : List Entry) (all : AreAdmitted (e ∷ log)) (old new
           (here_due (tree_of (e ∷ log)) (is_over (e ∷ log)) log e old new r e.what task fed.closings refl
           (subst (λ (q : ℕ). Counts (e ∷ log) q e.what) is c) taken.due (subst (λ (q : ℕ). task_of (tree_of (e ∷ log)) (is_over (e ∷ log)) r q e.what ≡ Some task) is j))
 
+  over_here : (to : ℕ) → is_message_to to e.what ≡ true → over_at new.over.items (length log) ≡ ends to (length log) e.what || is_over log to (length log)
+  over_here to h =
+      let n = length log in
+      taken.over n
+      ∙ ap (λ (b : Bool). b || over_at old.over.items n) (new_turns log n old e.what to h ∙ fed.early to n (omega arith))
+      ∙ ap (λ (b : Bool). is_over log to n || b) (fed.unset n (omega arith))
+      ∙ or_false (is_over log to n)
+      ∙ sym (ap (λ (b : Bool). b || is_over log to n) (no_end e.what to n h))
+
+  over_due : (to post : ℕ) → has_message (e ∷ log) to post ≡ true → over_at new.over.items post ≡ ends to post e.what || is_over log to post
+  unfolding entry_at
+  over_due to post h = elim (eqb_tells (length log) post) as (λ _. over_at new.over.items post ≡ ends to post e.what || is_over log to post) [
+    | inl p ↦
+        let here : is_message_to to e.what ≡ true = subst (λ (b : Bool). holds_message (if b then Some e else entry_at log post) to ≡ true) p.0 h in
+        subst (λ (k : ℕ). over_at new.over.items k ≡ ends to k e.what || is_over log to k) p.1 (over_here to here)
+    | inr p ↦
+        let there : has_message log to post ≡ true = subst (λ (b : Bool). holds_message (if b then Some e else entry_at log post) to ≡ true) p.0 h in
+        taken.over post
+        ∙ ap (λ (b : Bool). b || over_at old.over.items post) (old_turns log (length log) old e.what to post there p.1)
+        ∙ ap (λ (b : Bool). ends to post e.what || b) (fed.over to post there)
+  ]
+
+  early_due : (to post : ℕ) → length log < post → has_early new to post ≡ ends to post e.what || is_over log to post
+  early_due to post lt =
+      taken.early to post
+      ∙ ap (λ (b : Bool). b || has_early old to post) (later_ends log e.what to post (omega arith))
+      ∙ ap (λ (b : Bool). ends to post e.what || b) (fed.early to post (omega arith))
+
+  unset_due : (post : ℕ) → length log < post → over_at new.over.items post ≡ false
+  unset_due post lt = taken.over post ∙ ap (λ (b : Bool). b || over_at old.over.items post) (later_turns log old e.what post lt) ∙ fed.unset post (omega arith)
+
   pub fed_next : IsFed new (e ∷ log)
   fed_next = record {
-    over = λ to post. taken.over to post ∙ ap (λ (b : Bool). ends to post e.what || b) (fed.over to post);
+    over = over_due;
+    early = λ to post le. early_due to post (omega arith);
+    unset = λ post le. unset_due post (omega arith);
     closings = λ nav. taken.closings nav ∙ ap (λ (o : Option ℕ). option_or o (if says_closing nav e.what then Some (length log) else None)) (fed.closings nav);
+    order = taken.places.order fed.order;
     tasks = λ r. record { all = λ place x task at counts k. all_due r place x task at counts k };
   }
 
 pub fed_same : (log : List Entry) (old new : Waiting) → IsFed old log → IsKept old new → IsFed new log
 fed_same log old new fed kept = record {
-  over = λ to post. kept.over to post ∙ fed.over to post;
+  over = λ to post h. kept.over post ∙ fed.over to post h;
+  early = λ to post le. kept.early to post ∙ fed.early to post le;
+  unset = λ post le. kept.over post ∙ fed.unset post le;
   closings = λ nav. kept.closings nav ∙ fed.closings nav;
-  tasks = λ r. record { all = λ place x task at counts k. kept.places r place ((fed.tasks r).all place x task at counts k) };
+  order = kept.places.order fed.order;
+  tasks = λ r. record { all = λ place x task at counts k. kept.places.places r place ((fed.tasks r).all place x task at counts k) };
 }
 
 -- any two proofs that rows are those of a log are equal

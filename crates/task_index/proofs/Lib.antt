@@ -1,4 +1,6 @@
+pub mod Queues
 pub mod Rows
 pub mod FirstTasks
 pub mod Later
+pub mod Over
 pub mod Feeding

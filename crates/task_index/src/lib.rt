@@ -5,8 +5,10 @@
 //! [`web_message::next_event`] says.
 #![tactic(auto)]
 
+mod ends;
 mod feed;
 mod places;
+mod row;
 mod tasks;
 mod waiting;
 

@@ -1,15 +1,13 @@
-ghost use Rattle.std.specs.Prelude.{◌≡◌, ◌<◌, ℕ, true, length, OnOk};
-ghost use Rattle.std.specs.BTreeSet.{contains};
-ghost use Rattle.std.specs.Ordering.{nat_cmp};
+ghost use Rattle.std.specs.Prelude.{◌≡◌, ◌<◌, true, length, OnOk};
 ghost use Rattle.task_index.specs.Fed.{has, KeepPlaces};
 
+use crate::row::Row;
 use std::alloc::{AllocError, Global};
-use std::collections::BTreeSet;
 
 /// Puts a place into the row of a renderer. After an `Err` no row has lost a place.
 pub fn put_place(
     alloc: Global,
-    rows: &mut Vec<BTreeSet<u32>>,
+    rows: &mut Vec<Row>,
     renderer: u16,
     place: u32,
 ) -> Result<(), AllocError>
@@ -21,29 +19,21 @@ pub fn put_place(
 }
 
 /// Makes empty rows up to that of a renderer.
-fn reach(alloc: Global, rows: &mut Vec<BTreeSet<u32>>, renderer: u16) -> Result<(), AllocError>
+fn reach(alloc: Global, rows: &mut Vec<Row>, renderer: u16) -> Result<(), AllocError>
     ensures kept { KeepPlaces rows.old.items rows.new.items }
     ensures there { OnOk result (renderer < length rows.new.items) }
 {
     while rows.len() <= renderer as usize {
-        rows.push(BTreeSet::new(alloc))?;
+        rows.push(Row::new(alloc))?;
     }
     Ok(())
 }
 
-fn put_at(rows: &mut Vec<BTreeSet<u32>>, renderer: u16, place: u32) -> Result<(), AllocError>
+fn put_at(rows: &mut Vec<Row>, renderer: u16, place: u32) -> Result<(), AllocError>
     requires { renderer < length rows.old.items }
     ensures kept { KeepPlaces rows.old.items rows.new.items }
     ensures there { OnOk result (has rows.new.items renderer place ≡ true) }
 {
     let row = &mut rows[renderer as usize];
-    put(row, place)
-}
-
-fn put(row: &mut BTreeSet<u32>, place: u32) -> Result<(), AllocError>
-    ensures kept { (other : ℕ) → contains nat_cmp row.old other ≡ true → contains nat_cmp row.new other ≡ true }
-    ensures there { OnOk result (contains nat_cmp row.new place ≡ true) }
-{
-    row.insert(place)?;
-    Ok(())
+    row.put(place)
 }

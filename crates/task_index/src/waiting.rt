@@ -5,9 +5,10 @@ ghost use Rattle.tree_log.specs.Tree.{tree_of};
 ghost use Rattle.task_index.specs.Fed.{IsFed};
 
 use crate::feed::feed_what;
+use crate::row::Row;
 use crate::tasks::next_in_row;
 use std::alloc::{AllocError, Global};
-use std::collections::{BTreeMap, BTreeSet, HashSet};
+use std::collections::{BTreeMap, HashSet};
 use tree_log::{Entry, Log, What};
 use tree_view::View;
 
@@ -16,9 +17,11 @@ use tree_view::View;
 pub struct Waiting {
     pub(crate) alloc: Global,
     /// For each renderer, the places of the entries that may leave it a task. One that leaves none is taken out once.
-    pub(crate) rows: Vec<BTreeSet<u32>>,
-    /// The messages that fired or lapsed, by document and place.
-    pub(crate) over: HashSet<(u32, u32)>,
+    pub(crate) rows: Vec<Row>,
+    /// Of each place of the log, whether the message that stands there fired or lapsed. Past its end none has.
+    pub(crate) over: Vec<bool>,
+    /// Ends of messages at places that the log did not have then, by document and place.
+    pub(crate) early: HashSet<(u32, u32)>,
     /// For each navigable that was asked to close, the place of the first entry that asked.
     pub(crate) closings: BTreeMap<u32, u32>,
 }
@@ -31,7 +34,8 @@ impl Waiting {
         Waiting {
             alloc,
             rows: Vec::new(alloc),
-            over: HashSet::new(alloc),
+            over: Vec::new(alloc),
+            early: HashSet::new(alloc),
             closings: BTreeMap::new(alloc),
         }
     }
@@ -45,7 +49,7 @@ impl Waiting {
         ensures ok { OnOk result (IsFed self.new (entry.now ∷ log.now.entries)) }
         ensures err { OnErr result (IsFed self.new log.now.entries) }
     {
-        feed_what(self, view, log.len(), &entry.what)
+        feed_what(self, log, view, log.len(), &entry.what)
     }
 
     /// What a renderer does next, as the event by which it takes the task. `None` exactly where nothing waits there. The view

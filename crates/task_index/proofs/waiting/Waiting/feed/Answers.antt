@@ -9,10 +9,13 @@ pub feed_what-requires : goal.feed_what-requires
 feed_what-requires g c = subst (λ (t : Tree). Stands t c.args.entry.now.what) (sym c.requires.tree) (entry_stands c.args.entry.now c.args.log.now.entries c.requires.admitted)
 
 pub returns-clause-ok : goal.returns-clause-ok
-returns-clause-ok g c = on_ok_weaker c.feed_what.result
-    (λ taken. fed_next c.args.entry.now c.args.log.now.entries c.requires.admitted c.args.self.now c.feed_what.new.waiting c.requires.fed
-    (subst (λ (n : ℕ). IsTaken (tree_of (c.args.entry.now ∷ c.args.log.now.entries)) n c.args.entry.now.what c.args.self.now c.feed_what.new.waiting) c.len.ensures
-    (subst (λ (t : Tree). IsTaken t c.len.result c.args.entry.now.what c.args.self.now c.feed_what.new.waiting) c.requires.tree taken)))
+returns-clause-ok g c =
+    let log = c.args.log.now.entries in
+    let what = c.args.entry.now.what in
+    on_ok_weaker c.feed_what.result
+    (λ taken. fed_next c.args.entry.now log c.requires.admitted c.args.self.now c.feed_what.new.waiting c.requires.fed
+    (subst (λ (n : ℕ). IsTaken log (tree_of (c.args.entry.now ∷ log)) n what c.args.self.now c.feed_what.new.waiting) c.len.ensures
+    (subst (λ (t : Tree). IsTaken log t c.len.result what c.args.self.now c.feed_what.new.waiting) c.requires.tree taken)))
     c.feed_what.ensures.ok
 
 pub returns-clause-err : goal.returns-clause-err
