@@ -1,0 +1,6 @@
+pub mod Places
+pub mod Steps
+pub mod Walks
+pub mod Ending
+pub mod Climbing
+pub mod Feeding
