@@ -3,7 +3,6 @@ use Rattle.std.specs.Prelude.{ℕ, List, [], ◌∷◌, length, Option, Some, No
 use Rattle.json.specs.Print.{quoted}
 use Rattle.plain_data.specs.DataText.{data_text}
 use Rattle.origin_core.specs.Origin.{origin_words}
-use Rattle.origin_core.specs.declared.origin.Origin.{Origin}
 use Rattle.origin_core.specs.Flags.{◌◊◌, flags_text}
 use Rattle.tree_log.specs.declared.entry.Entry.{Entry}
 use Rattle.tree_log.specs.declared.entry.Load.{Load}
@@ -83,11 +82,15 @@ back_words _ = []
 abbrev pub what_words : What → List ℕ
 what_words what = front_words what ◊ back_words what
 
--- the line of an entry that stands at a place: the place, the renderer, the acting document, and what happened
-unfoldable pub entry_line : ℕ → Entry → List ℕ
-entry_line place e =
+-- an entry that stands at a place: the place, the renderer, the acting document, and what happened
+unfoldable pub entry_words : ℕ → Entry → List ℕ
+entry_words place e =
     decimal place ◊ codes " " ◊ numbered (codes "r") e.by ◊ codes " " ◊ numbered (codes "d") e.actor ◊ codes " "
-    ◊ what_words e.what ◊ codes "\n"
+    ◊ what_words e.what
+
+-- the line of an entry
+unfoldable pub entry_line : ℕ → Entry → List ℕ
+entry_line place e = entry_words place e ◊ codes "\n"
 
 -- the lines of a log
 abbrev pub log_lines : List Entry → List ℕ

@@ -8,6 +8,6 @@ mod log_lines;
 mod record_lines;
 mod status;
 
-pub use log_lines::log_text;
+pub use log_lines::{entry_text, log_text};
 pub use record_lines::record_text;
 pub use status::{Status, status_text};

@@ -1,5 +1,5 @@
 ghost use Rattle.std.specs.Prelude.{◌≡◌, ◌++◌, Some, OnOk, IfOk, string_bytes, encode_utf8};
-ghost use Rattle.trace_text.specs.LogText.{numbered, load_words, begin_words, target_words, cause_words, front_words, back_words, what_words, entry_line, log_words};
+ghost use Rattle.trace_text.specs.LogText.{numbered, load_words, begin_words, target_words, cause_words, front_words, back_words, what_words, entry_words, entry_line, log_words};
 
 use plain_data::{Text, quote, text_of};
 use std::alloc::{AllocError, Global};
@@ -36,6 +36,15 @@ pub fn log_text(alloc: Global, log: &Log) -> Result<Text, AllocError>
     Ok(Text::from_string(out))
 }
 
+/// The line of an entry that stands at a place, as the text of a log has it, without its line feed.
+pub fn entry_text(alloc: Global, place: u32, entry: &Entry) -> Result<Text, AllocError>
+    ensures { IfOk result (λ text. text ≡ entry_words place entry.now) }
+{
+    let mut out = String::new(alloc);
+    push_words(alloc, &mut out, place as usize, entry)?;
+    Ok(Text::from_string(out))
+}
+
 #[tactic(auto, unfolding(crate::specs::LogText::entry_line))]
 fn push_entry(
     alloc: Global,
@@ -45,11 +54,24 @@ fn push_entry(
 ) -> Result<(), AllocError>
     ensures { OnOk result (string_bytes out.new ≡ string_bytes out.old ++ entry_line place entry.now) }
 {
+    push_words(alloc, out, place, entry)?;
+    out.push_str("\n")
+}
+
+// The line of an entry without its line feed.
+#[tactic(auto, unfolding(crate::specs::LogText::entry_words))]
+fn push_words(
+    alloc: Global,
+    out: &mut String,
+    place: usize,
+    entry: &Entry,
+) -> Result<(), AllocError>
+    ensures { OnOk result (string_bytes out.new ≡ string_bytes out.old ++ entry_words place entry.now) }
+{
     let by = Numbered('r', widened(entry.by));
     let actor = Numbered('d', entry.actor);
     write!(out, "{place} {by} {actor} ")?;
-    push_what(alloc, out, &entry.what)?;
-    out.push_str("\n")
+    push_what(alloc, out, &entry.what)
 }
 
 fn widened(number: Option<u16>) -> Option<u32>
