@@ -1,5 +1,6 @@
 pub mod FrameLaws
 pub mod EntryLaws
+pub mod ShownLaws
 pub mod RequestLaws
 pub mod RequestFrames
 pub mod ReplyLaws

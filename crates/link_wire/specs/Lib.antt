@@ -1,6 +1,7 @@
 pub mod Bad
 pub mod Frames
 pub mod Requests
+pub mod Shown
 pub mod ReplyView
 pub mod Replies
 pub mod Feeding

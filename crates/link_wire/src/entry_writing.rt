@@ -1,12 +1,15 @@
 ghost use Rattle.std.specs.Prelude.{◌≡◌, ◌++◌, OnOk};
 ghost use Rattle.std.specs.List.{flat_map};
+ghost use Rattle.std.specs.Option.{option_copied};
 ghost use Rattle.frame_grammar.specs.Entries as spec;
+ghost use Rattle.link_wire.specs.Shown.{what_with, entry_with};
 
-use crate::parts::{put_cause, put_load, put_optional_load, put_target};
+use crate::parts::{put_cause, put_load, put_optional_load, put_target, put_url_with};
 use link_fields::{
     put_data, put_flags, put_host, put_optional_u16, put_optional_u32, put_origin, put_text,
-    put_u8, put_u16, put_u32, put_url,
+    put_u8, put_u16, put_u32,
 };
+use origin_core::PageUrl;
 use std::alloc::AllocError;
 use tree_log::{Entry, What};
 
@@ -34,9 +37,9 @@ fn what_tag(what: &What) -> u8
     }
 }
 
-// Adds the fields of what happened.
-fn put_what(out: &mut Vec<u8>, what: &What) -> Result<(), AllocError>
-    ensures { OnOk result (out.new.items ≡ out.old.items ++ spec.what_body what.now) }
+// Adds the fields of what happened, with the other URL, where one is given.
+fn put_what(out: &mut Vec<u8>, what: &What, other: Option<&PageUrl>) -> Result<(), AllocError>
+    ensures { OnOk result (out.new.items ≡ out.old.items ++ spec.what_body (what_with (option_copied other.entry) what.now)) }
 {
     match what {
         What::Open {
@@ -60,7 +63,7 @@ fn put_what(out: &mut Vec<u8>, what: &What) -> Result<(), AllocError>
             put_optional_u32(out, *opener)?;
             put_flags(out, *flags)?;
             put_optional_u32(out, *navigator)?;
-            put_optional_load(out, load)
+            put_optional_load(out, load, other)
         }
         What::Frame {
             nav,
@@ -77,7 +80,7 @@ fn put_what(out: &mut Vec<u8>, what: &What) -> Result<(), AllocError>
             put_origin(out, origin)?;
             put_text(out, name)?;
             put_flags(out, *flags)?;
-            put_optional_load(out, load)
+            put_optional_load(out, load, other)
         }
         What::Drop { nav } => { put_u32(out, *nav) }
         What::Name { nav, name } => {
@@ -86,7 +89,7 @@ fn put_what(out: &mut Vec<u8>, what: &What) -> Result<(), AllocError>
         }
         What::Begin { nav, load } => {
             put_u32(out, *nav)?;
-            put_load(out, load)
+            put_load(out, load, other)
         }
         What::Commit { nav, doc, begin } => {
             put_u32(out, *nav)?;
@@ -96,7 +99,7 @@ fn put_what(out: &mut Vec<u8>, what: &What) -> Result<(), AllocError>
         What::Fragment { nav, doc, url } => {
             put_u32(out, *nav)?;
             put_u32(out, *doc)?;
-            put_url(out, url)
+            put_url_with(out, url, other)
         }
         What::Opener { nav, to } => {
             put_u32(out, *nav)?;
@@ -136,14 +139,22 @@ fn put_what(out: &mut Vec<u8>, what: &What) -> Result<(), AllocError>
     }
 }
 
-#[tactic(auto, unfolding(frame_grammar::specs::Entries::entry), using(crate::proofs::EntryLaws::what_is))]
-fn put_entry(out: &mut Vec<u8>, entry: &Entry) -> Result<(), AllocError>
-    ensures { OnOk result (out.new.items ≡ out.old.items ++ spec.entry.spell entry.now) }
+/// Adds an entry, with the other URL in its load or in its navigation to a fragment, where one is given. It takes no memory but
+/// what `out` grows by.
+pub fn put_entry(out: &mut Vec<u8>, entry: &Entry, url: Option<&PageUrl>) -> Result<(), AllocError>
+    ensures { OnOk result (out.new.items ≡ out.old.items ++ spec.entry.spell (entry_with (option_copied url.entry) entry.now)) }
 {
     put_u8(out, what_tag(&entry.what))?;
     put_optional_u16(out, entry.by)?;
     put_optional_u32(out, entry.actor)?;
-    put_what(out, &entry.what)
+    put_what(out, &entry.what, url)
+}
+
+// Adds an entry as it is.
+fn put_as_it_is(out: &mut Vec<u8>, entry: &Entry) -> Result<(), AllocError>
+    ensures { OnOk result (out.new.items ≡ out.old.items ++ spec.entry.spell entry.now) }
+{
+    put_entry(out, entry, None)
 }
 
 /// Adds entries, one after the other.
@@ -151,7 +162,7 @@ pub(crate) fn put_entries(out: &mut Vec<u8>, entries: &[Entry]) -> Result<(), Al
     ensures { OnOk result (out.new.items ≡ out.old.items ++ flat_map spec.entry.spell entries.now) }
 {
     for entry in entries {
-        put_entry(out, entry)?;
+        put_as_it_is(out, entry)?;
     }
     Ok(())
 }

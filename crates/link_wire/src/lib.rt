@@ -29,8 +29,10 @@ mod requests;
 
 pub use agent_terms::{ReplyOutcome, Request, Why};
 pub use bad::{Bad, DecodeError};
+pub use entry_writing::put_entry;
 pub use link::{Link, LinkError};
 pub use reader::{Fed, FrameReader};
-pub use replies::{decode_reply, encode_reply};
+pub use replies::{decode_reply, encode_reply, outcome_kind};
 pub use reply::Reply;
+pub use reply_rows::put_outcome;
 pub use requests::{decode_request, encode_request};

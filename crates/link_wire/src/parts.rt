@@ -1,12 +1,15 @@
 ghost use Rattle.std.specs.Prelude.{◌≡◌, ◌++◌, OnOk};
+ghost use Rattle.std.specs.Option.{option_copied};
 ghost use Rattle.link_fields.specs.Field.{Gives};
-ghost use Rattle.link_fields.specs.Basic.{optional};
+ghost use Rattle.link_fields.specs.Basic.{optional, url};
 ghost use Rattle.frame_grammar.specs.Parts as spec;
+ghost use Rattle.link_wire.specs.Shown.{url_with, load_with, optional_load_with};
 
 use link_fields::{
     Flaw, LastOrigin, ReadError, fault_here, put_origin, put_u8, put_u16, put_u32, put_url,
     read_small, read_u16, read_u32, read_url,
 };
+use origin_core::PageUrl;
 use std::alloc::{AllocError, Global};
 use tree_log::{Cause, Load, Target};
 
@@ -67,14 +70,32 @@ pub(crate) fn read_load<'a>(
     ))
 }
 
-/// Adds a load.
-pub(crate) fn put_load(out: &mut Vec<u8>, load: &Load) -> Result<(), AllocError>
-    ensures { OnOk result (out.new.items ≡ out.old.items ++ spec.load.spell load.now) }
+/// Adds the other URL, where one is given; else this one.
+pub(crate) fn put_url_with(
+    out: &mut Vec<u8>,
+    page: &PageUrl,
+    other: Option<&PageUrl>,
+) -> Result<(), AllocError>
+    ensures { OnOk result (out.new.items ≡ out.old.items ++ url.spell (url_with (option_copied other.entry) page.now)) }
+{
+    match other {
+        Some(other) => put_url(out, other),
+        None => put_url(out, page),
+    }
+}
+
+/// Adds a load, with the other URL, where one is given.
+pub(crate) fn put_load(
+    out: &mut Vec<u8>,
+    load: &Load,
+    other: Option<&PageUrl>,
+) -> Result<(), AllocError>
+    ensures { OnOk result (out.new.items ≡ out.old.items ++ spec.load.spell (load_with (option_copied other.entry) load.now)) }
 {
     put_u32(out, load.doc)?;
     put_u16(out, load.home)?;
     put_origin(out, &load.origin)?;
-    put_url(out, &load.url)
+    put_url_with(out, &load.url, other)
 }
 
 /// 0, or 1 and a load.
@@ -93,15 +114,19 @@ pub(crate) fn read_optional_load<'a>(
     Ok((Some(load), rest))
 }
 
-/// Adds 0, or 1 and a load.
-pub(crate) fn put_optional_load(out: &mut Vec<u8>, load: &Option<Load>) -> Result<(), AllocError>
-    ensures { OnOk result (out.new.items ≡ out.old.items ++ (optional spec.load).spell load.now) }
+/// Adds 0, or 1 and a load, with the other URL, where one is given.
+pub(crate) fn put_optional_load(
+    out: &mut Vec<u8>,
+    load: &Option<Load>,
+    other: Option<&PageUrl>,
+) -> Result<(), AllocError>
+    ensures { OnOk result (out.new.items ≡ out.old.items ++ (optional spec.load).spell (optional_load_with (option_copied other.entry) load.now)) }
 {
     match load {
         None => put_u8(out, 0),
         Some(load) => {
             put_u8(out, 1)?;
-            put_load(out, load)
+            put_load(out, load, other)
         }
     }
 }

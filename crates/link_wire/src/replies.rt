@@ -15,7 +15,8 @@ use agent_terms::{ReplyOutcome, Why};
 use link_fields::{put_bool, put_u32};
 use std::alloc::{AllocError, Global};
 
-fn outcome_kind(outcome: &ReplyOutcome) -> u8
+/// The kind of the frame of a reply with that outcome.
+pub fn outcome_kind(outcome: &ReplyOutcome) -> u8
     ensures { result ≡ outcomes.outcome_kind outcome.now }
 {
     match outcome {

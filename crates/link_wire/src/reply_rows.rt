@@ -162,7 +162,7 @@ pub(crate) fn read_reply(alloc: Global, kind: u8, bytes: &[u8]) -> Result<(Reply
 }
 
 /// Adds the fields of an outcome.
-pub(crate) fn put_outcome(out: &mut Vec<u8>, outcome: &ReplyOutcome) -> Result<(), AllocError>
+pub fn put_outcome(out: &mut Vec<u8>, outcome: &ReplyOutcome) -> Result<(), AllocError>
     ensures { OnOk result (out.new.items ≡ out.old.items ++ outcomes.outcome_body outcome.now) }
 {
     match outcome {
