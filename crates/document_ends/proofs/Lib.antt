@@ -4,3 +4,4 @@ pub mod Walks
 pub mod Ending
 pub mod Climbing
 pub mod Feeding
+pub mod Openers

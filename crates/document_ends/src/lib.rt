@@ -7,5 +7,6 @@
 
 mod ends;
 mod feed;
+pub mod laws;
 
 pub use ends::Ends;

@@ -4,3 +4,4 @@ pub mod FirstTasks
 pub mod Later
 pub mod Over
 pub mod Feeding
+pub mod Openers

@@ -7,6 +7,7 @@
 
 mod ends;
 mod feed;
+pub mod laws;
 mod places;
 mod row;
 mod tasks;
