@@ -14,8 +14,8 @@ use std::alloc::{AllocError, Global};
 use tree_log::What;
 use tree_view::View;
 
-// The document that asks; 0 where none does.
-fn asker_of(request: &Request) -> u32
+/// The document that asks; 0 where none does.
+pub fn asker_of(request: &Request) -> u32
     ensures { result ≡ spec.asker_of request.now }
 {
     match request {

@@ -15,5 +15,5 @@ mod navigating;
 mod others;
 mod windows;
 
-pub use deciding::decide;
+pub use deciding::{asker_of, decide};
 pub use decisions::{Decided, Made};
