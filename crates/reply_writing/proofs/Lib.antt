@@ -1,0 +1,4 @@
+pub mod Walks
+pub mod Lengths
+pub mod Tellings
+pub mod Finishing

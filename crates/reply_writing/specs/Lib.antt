@@ -1,0 +1,4 @@
+pub mod Telling
+pub mod Patched
+pub mod Bytes
+pub mod Writing
