@@ -1,0 +1,22 @@
+-- What is in range of frames.
+pub mod Parts
+pub mod Births
+pub mod Hosts
+pub mod Origins
+pub mod Homes
+pub mod Requests
+pub mod Named
+pub mod Loads
+pub mod Suffixes
+pub mod Domains
+pub mod Brought
+pub mod Tasks
+pub mod Kept
+pub mod Joined
+pub mod Blanks
+pub mod Told
+pub mod Sizes
+pub mod EntrySizes
+pub mod Replies
+pub mod Outcomes
+pub mod Starts

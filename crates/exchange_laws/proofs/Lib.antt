@@ -1,0 +1,4 @@
+pub mod Made
+pub mod Owned
+pub mod Posted
+pub mod Fit
