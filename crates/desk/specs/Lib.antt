@@ -1,0 +1,5 @@
+pub mod History
+pub mod Books
+pub mod Refusals
+pub mod Serving
+pub mod Answering
