@@ -1,5 +1,5 @@
 -- The history of a log and of tellings, as both grow.
-use Rattle.std.proofs.Common.{◌≡◌, ℕ, zero, suc, ◌-◌, ◌≤◌, List, [], ◌∷◌, ◌++◌, length, take, Bool, true, false, refl, ap, ◌∙◌, arith, if◌then◌else◌}
+use Rattle.std.proofs.Common.{◌≡◌, ℕ, zero, suc, ◌-◌, ◌≤◌, List, [], ◌∷◌, ◌++◌, length, take, Bool, true, false, refl, ap, ◌∙◌, arith, length-append, if◌then◌else◌}
 use Rattle.std.specs.Prelude.{nat_le, ◌==◌}
 use Rattle.std.proofs.lemmas.Bool.Decides.{nat_tests}
 use Rattle.tree_log.specs.declared.entry.Entry.{Entry}
@@ -71,6 +71,11 @@ history_pushed (t ∷ older) e log h =
     let m : suc (length log) - t.at ≡ suc (length log - t.at) = omega arith in
     let b : nat_le t.at (length log) ≡ true = grind (arith, nat_tests) in
     rw (m, b) refl
+
+-- and so do several
+pub history_entered : (ts : List Telling) (es log : List Entry) → newest_at ts ≤ length log → history (es ++ log) ts ≡ entered es ++ history log ts
+history_entered ts [] log h = refl
+history_entered ts (e ∷ es) log h = history_pushed ts e (es ++ log) (let l = length-append es log in omega arith) ∙ ap (λ items. Entered e ∷ items) (history_entered ts es log h)
 
 -- a renderer is told
 pub history_told : (ts : List Telling) (log : List Entry) (r upto : ℕ) → history log (record { renderer = r; upto = upto; at = length log } ∷ ts) ≡ Told r upto ∷ history log ts

@@ -93,13 +93,17 @@ by_room P true true none made n h = n
 by_room P true false none made n h = h (inr refl)
 by_room P false needs none made n h = h (inl refl)
 
+by_read : (P : List Entry → Type 0) (rules : Rules) (log : List Entry) (r : ℕ) (bytes : List ℕ) → P []
+    → ((q : Request) → request_read bytes ≡ Ok q → (is_full log ≡ false) ⊎ (needs_room (tree_of log) r q ≡ false) → P (exchange rules log r q).entries) → P (answered rules log r bytes).entries
+unfolding answered decided
+by_read P rules log r bytes none made = by_case (request_read bytes) refl where
+  by_case : (d : Decoded Request) → request_read bytes ≡ d → P (decided_on rules log r d).entries
+  by_case (Ok q) e = by_room P (is_full log) (needs_room (tree_of log) r q) (full log) (exchange rules log r q) none (made q e)
+  by_case (Err bad) e = none
+
 pub by_answer : (P : List Entry → Type 0) (rules : Rules) (log : List Entry) (r : ℕ) (bytes : List ℕ) → IsBytes bytes → P []
     → ((q : Request) → IsRequest q → (is_full log ≡ false) ⊎ (needs_room (tree_of log) r q ≡ false) → P (exchange rules log r q).entries) → P (answered rules log r bytes).entries
-unfolding answered decided
-by_answer P rules log r bytes small none made = by_read (request_read bytes) refl where
-  by_read : (d : Decoded Request) → request_read bytes ≡ d → P (decided_on rules log r d).entries
-  by_read (Ok q) e = by_room P (is_full log) (needs_room (tree_of log) r q) (full log) (exchange rules log r q) none (λ room. made q (request_found bytes q small e).0 room)
-  by_read (Err bad) e = none
+by_answer P rules log r bytes small none made = by_read P rules log r bytes none (λ q e room. made q (request_found bytes q small e).0 room)
 
 pub may_join : (rules : Rules) (log : List Entry) (r : ℕ) (bytes : List ℕ) → IsBytes bytes → AreAdmitted log → length log < 2 ^ 30 → MayJoin (answered rules log r bytes).entries log
 may_join rules log r bytes small all short =
@@ -116,7 +120,8 @@ opener_last rules log r bytes small =
     by_answer HasOpenerLast rules log r bytes small tt (λ q fits room. opener_of_few (exchange rules log r q).entries (exchange_owned rules log r q).few)
 
 -- each entry is the renderer's own
-pub all_owned : (rules : Rules) (log : List Entry) (r : ℕ) (bytes : List ℕ) → IsBytes bytes → All (IsOwn log r) (answered rules log r bytes).entries
-all_owned rules log r bytes small =
-    All-from_recursion (IsOwn log r) (answered rules log r bytes).entries
-    (by_answer (λ es. AllByRecursion (IsOwn log r) es) rules log r bytes small tt (λ q fits room. (exchange_owned rules log r q).own))
+pub each_owned : (rules : Rules) (log : List Entry) (r : ℕ) (bytes : List ℕ) → AllByRecursion (IsOwn log r) (answered rules log r bytes).entries
+each_owned rules log r bytes = by_read (λ es. AllByRecursion (IsOwn log r) es) rules log r bytes tt (λ q e room. (exchange_owned rules log r q).own)
+
+pub all_owned : (rules : Rules) (log : List Entry) (r : ℕ) (bytes : List ℕ) → All (IsOwn log r) (answered rules log r bytes).entries
+all_owned rules log r bytes = All-from_recursion (IsOwn log r) (answered rules log r bytes).entries (each_owned rules log r bytes)

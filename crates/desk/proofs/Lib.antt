@@ -5,4 +5,7 @@ pub mod Homes
 pub mod Deciding
 pub mod Joining
 pub mod Told
+pub mod Fitting
 pub mod Starting
+pub mod Growing
+pub mod Refusing

@@ -50,8 +50,8 @@ pub answers_within : (r : ℕ) (log : List Entry) (told : ℕ) (d : Decision) �
 answers_within r log told d h = told_within d.outcome r told (d.entries ++ log) (longer d.entries log told h)
 
 -- and with what joins, the log stays short
-joined_short : (es log : List Entry) → HasRoomFor es log → length log < 2 ^ 30 → length (es ++ log) < 2 ^ 31
-joined_short [] log room short = omega arith
+pub joined_short : (es log : List Entry) → HasRoomFor es log → length log < 2 ^ 30 → length (es ++ log) < 2 ^ 30
+joined_short [] log room short = short
 joined_short (e ∷ es) log room short = let l = length-append es log in omega arith
 
 pub answers_short : (r : ℕ) (log : List Entry) (told : ℕ) (d : Decision) → MayJoin d.entries log → length log < 2 ^ 30 → told ≤ length log → told_after r log told d < 2 ^ 31

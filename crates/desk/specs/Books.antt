@@ -2,9 +2,10 @@
 use Rattle.std.specs.Prelude.{ℕ, suc, ◌+◌, ◌≡◌, ◌<◌, ◌≤◌, List, [], ◌∷◌, ◌++◌, length, get_or, Bool, true, false}
 use Rattle.agent_terms.specs.Limits.{most_entries, most_renderers}
 use Rattle.coordinator_rules.specs.Decision.{Rules}
+use Rattle.exchange_laws.specs.Fit.{IsFitLog}
 use Rattle.single_agent.specs.LegalRecord.{is_loss, is_lost_on}
 use Rattle.tree_log.specs.Admits.{AreAdmitted}
-use Rattle.tree_log.specs.Range.{HasAscendingKeys}
+use Rattle.tree_log.specs.Range.{AreInRange, HasAscendingKeys}
 use Rattle.tree_log.specs.declared.entry.Entry.{Entry}
 use Rattle.desk.specs.declared.item.Item.{Item}
 use Rattle.desk.specs.declared.telling.Telling.{Telling}
@@ -35,14 +36,15 @@ count_true (b ∷ bs) = one_if b + count_true bs
 
 -- WHAT A LEDGER KEEPS
 
-pub record IsKept (renderers : ℕ) (log : List Entry) (tellings : TellingsValue) (lost : List Bool) : Type 0 where
-  pub some : 0 < renderers
-  pub not_many : renderers ≤ most_renderers
-  pub seats : tellings.renderers ≡ renderers
+pub record IsKept (rules : Rules) (log : List Entry) (tellings : TellingsValue) (lost : List Bool) : Type 0 where
+  pub some : 0 < rules.renderers
+  pub not_many : rules.renderers ≤ most_renderers
+  pub seats : tellings.renderers ≡ rules.renderers
   pub admitted : AreAdmitted log
+  pub fit : IsFitLog rules log
   pub placed : newest_at tellings.told ≤ length log
   pub within : (r : ℕ) → told_in tellings.told r ≤ length log
-  pub marks : length lost ≡ renderers
+  pub marks : length lost ≡ rules.renderers
   pub losses : (r : ℕ) → get_or lost r false ≡ is_lost_on r log
   pub few : length log ≤ most_entries + count_true lost
 
@@ -67,3 +69,7 @@ pub record MayJoin (es log : List Entry) : Type 0 where
   pub admitted : AreAdmitted (es ++ log)
   pub each : AllJoin es
   pub room : HasRoomFor es log
+
+-- with these entries, newest first, the log stays in range of frames, so long as their origins and URLs are in range
+pub record KeepsFit (rules : Rules) (es log : List Entry) : Type 0 where
+  pub kept : IsFitLog rules log → AreInRange es → IsFitLog rules (es ++ log)

@@ -1,6 +1,7 @@
 -- The history of a coordinator, newest item first: the entries of its log, and between them how much of it each renderer was
 -- told. Both are this project's own.
-use Rattle.std.specs.Prelude.{ℕ, ◌-◌, ◌==◌, List, [], ◌∷◌, ◌++◌, length, take, Option, Some, if◌then◌else◌}
+use Rattle.std.specs.Prelude.{ℕ, ◌≡◌, ◌-◌, ◌==◌, List, [], ◌∷◌, ◌++◌, length, take, Option, Some, None, if◌then◌else◌}
+use Rattle.std.specs.Option.{option_or}
 use Rattle.tree_log.specs.declared.entry.Entry.{Entry}
 use Rattle.tree_log.specs.declared.entry.What.{What}
 use Rattle.tree_log.specs.declared.entry.What.TheVariants.{Lost}
@@ -25,15 +26,26 @@ abbrev pub entered : List Entry → List Item
 entered [] = []
 entered (e ∷ es) = Entered e ∷ entered es
 
--- the renderer that an entry names: the one that is lost, or the one that made it
-abbrev pub renderer_named : Option ℕ → What → Option ℕ
-renderer_named by (Lost r) = Some r
-renderer_named by what = by
+-- the renderer that is lost by what happened
+abbrev pub lost_by : What → Option ℕ
+lost_by (Lost r) = Some r
+lost_by what = None
 
--- the renderer that an item names, if it names one
+-- the renderer that an item names, if it names one: the one that made the entry, or that is lost by it; or the one that was told
 abbrev pub renderer_of : Item → Option ℕ
-renderer_of (Entered e) = renderer_named e.by e.what
+renderer_of (Entered e) = option_or e.by (lost_by e.what)
 renderer_of (Told r upto) = Some r
+
+-- each of these names renderer r
+abbrev pub NameAll : ℕ → List Item → Type 0
+NameAll r [] = Unit {0}
+NameAll r (item ∷ items) = (renderer_of item ≡ Some r) × NameAll r items
+
+-- a history with newer items, each of which names renderer r
+pub record GrowsBy (r : ℕ) (old new : List Item) : Type 0 where
+  pub items : List Item
+  pub grown : new ≡ items ++ old
+  pub named : NameAll r items
 
 -- KEPT BESIDE THE LOG
 

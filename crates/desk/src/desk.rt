@@ -1,9 +1,11 @@
 ghost use Rattle.std.specs.Prelude.{◌≡◌, ◌<◌, ◌≤◌, ◌+◌, ◌∷◌, ◌++◌, [], length, true, false, All, OnOk, OnErr, IfOk, IsErr, IsTrue};
 ghost use Rattle.agent_terms.specs.Limits.{most_entries, most_renderers, most_starts};
 ghost use Rattle.desk.specs.Answering.{Answers};
+ghost use Rattle.desk.specs.Books.{KeepsFit};
 ghost use Rattle.desk.specs.History.{log_of, told_of};
 ghost use Rattle.desk.specs.Serving.{answered, Coordinator, GivesUp, IsAt, IsServed};
 ghost use Rattle.desk.specs.declared.item.Item.TheVariants.{Entered};
+ghost use Rattle.exchange_laws.specs.Fit.{IsFitLog};
 ghost use Rattle.exchange_laws.specs.Own.{IsOwn};
 ghost use Rattle.log_rows.specs.Kept.{AreOf};
 ghost use Rattle.single_agent.specs.LegalLog.{lost_entry};
@@ -102,9 +104,12 @@ fn started<V: View + Drop>(
     requires rows { AreOf V.tree V.urls ledger.now.rules.suffixes rows.old (log_of ledger.now.history) }
     ensures entry { IfOk result (λ entry. entry ≡ start_entry ledger.now.rules (tree_of (log_of ledger.now.history)) url) }
     ensures admitted { IfOk result (λ entry. IsTrue (admits (tree_of (log_of ledger.now.history)) entry)) }
+    ensures fit { IfOk result (λ entry. KeepsFit ledger.now.rules (entry ∷ []) (log_of ledger.now.history)) }
     ensures rows { IfOk result (λ entry. AreOf V.tree V.urls ledger.now.rules.suffixes rows.new (entry ∷ log_of ledger.now.history)) }
 {
     let log = ledger.log();
+    // By its type the URL is a page's.
+    let _text = url.as_str();
     let entry = make_start_entry(
         alloc,
         &rows.view,
@@ -165,6 +170,8 @@ impl<V: View + Drop> Desk<V> {
         ensures entries { result.now.entries ≡ log_of self.now.history }
         ensures admitted { AreAdmitted (log_of self.now.history) }
         ensures few { length (log_of self.now.history) ≤ most_entries + most_renderers }
+        // Frames can spell each of its entries.
+        ensures fit { IsFitLog self.now.rules (log_of self.now.history) }
     {
         self.ledger.log()
     }

@@ -1,13 +1,15 @@
-ghost use Rattle.std.specs.Prelude.{◌≡◌, ◌∷◌, ◌++◌, [], ◌<◌, ◌≤◌, ◌+◌, ◌-◌, length, get_or, false, IsTrue, OnOk, OnErr, IfOk};
+ghost use Rattle.std.specs.Prelude.{◌≡◌, ◌∷◌, ◌++◌, [], ◌<◌, ◌≤◌, ◌+◌, ◌-◌, ◌^◌, length, get_or, false, IsTrue, OnOk, OnErr, IfOk};
 ghost use Rattle.agent_terms.specs.Limits.{most_entries, most_renderers};
-ghost use Rattle.desk.specs.Books.{Joins, MayJoin};
+ghost use Rattle.desk.specs.Books.{AllJoin, Joins, KeepsFit, MayJoin};
 ghost use Rattle.desk.specs.History.{entered, log_of, told_of};
 ghost use Rattle.desk.specs.Serving.{with_telling};
 ghost use Rattle.desk.specs.declared.item.Item.TheVariants.{Entered, Told};
+ghost use Rattle.exchange_laws.specs.Fit.{IsFitLog};
 ghost use Rattle.single_agent.specs.LegalLog.{lost_entry};
 ghost use Rattle.single_agent.specs.LegalRecord.{is_lost_on};
 ghost use Rattle.tree_log.specs.Admits.{admits, AreAdmitted};
 ghost use Rattle.request_decisions.specs.Made.{entries_of};
+ghost use Rattle.tree_log.specs.Range.{AreInRange, HasAscendingKeys};
 ghost use Rattle.tree_log.specs.Tree.{tree_of};
 
 use crate::telling::Telling;
@@ -36,6 +38,7 @@ impl Model for Ledger {
     ghost use Rattle.desk.specs.Books.{LedgerValue, IsKept};
     ghost use Rattle.desk.specs.History.{history};
     ghost use Rattle.plain_data.specs.contracts.data.Data as data_type;
+    ghost use Rattle.request_decisions.specs.Asked.{rules};
     ghost use Rattle.std.specs.Coded.{codes};
 
     ghost Value = { LedgerValue };
@@ -44,7 +47,7 @@ impl Model for Ledger {
 
     ghost view = { λ l. record { rules = record { renderers = l.renderers; suffixes = l.suffixes.items }; history = history l.log.entries l.tellings.told; room = l.log.room; slots = l.tellings.room } };
 
-    ghost invariant = { λ l. IsKept l.renderers l.log.entries l.tellings l.lost.items };
+    ghost invariant = { λ l. IsKept (rules l.renderers l.suffixes.items) l.log.entries l.tellings l.lost.items };
 }
 
 impl Ledger {
@@ -92,6 +95,7 @@ impl Ledger {
         ensures entries { result.now.entries ≡ log_of self.now.history }
         ensures admitted { AreAdmitted (log_of self.now.history) }
         ensures few { length (log_of self.now.history) ≤ most_entries + most_renderers }
+        ensures fit { IsFitLog self.now.rules (log_of self.now.history) }
     {
         &self.log
     }
@@ -128,33 +132,27 @@ impl Ledger {
         requires few { length (log_of self.old.history) < most_entries }
         requires admitted { IsTrue (admits (tree_of (log_of self.old.history)) entry) }
         requires joins { Joins entry }
+        requires fit { KeepsFit self.old.rules (entry ∷ []) (log_of self.old.history) }
         ensures rules { self.new.rules ≡ self.old.rules }
         ensures history { self.new.history ≡ Entered entry ∷ self.old.history }
         ensures room { self.new.room ≡ self.old.room - 1 }
         ensures slots { self.new.slots ≡ self.old.slots }
     {
-        match self.log.push(entry) {
-            Ok(()) => {}
-            Err(_) => unreachable!(),
-        }
+        push(&mut self.log, entry);
+        know_range(&self.log);
     }
 
     // Appends the entries of a decision, for which there is room.
     fn enter(&mut self, made: Made)
         requires room { 2 ≤ self.old.room }
         requires may_join { MayJoin (entries_of made) (log_of self.old.history) }
+        requires fit { KeepsFit self.old.rules (entries_of made) (log_of self.old.history) }
         ensures rules { self.new.rules ≡ self.old.rules }
         ensures history { self.new.history ≡ entered (entries_of made) ++ self.old.history }
         ensures slots { self.new.slots ≡ self.old.slots }
     {
-        match made {
-            Made::Nothing => {}
-            Made::One(entry) => self.append(entry),
-            Made::Two { first, second } => {
-                self.append(first);
-                self.append(second);
-            }
-        }
+        push_made(&mut self.log, made);
+        know_range(&self.log);
     }
 
     // Notes that a renderer was told the log up to a length, where that is more than before.
@@ -176,6 +174,7 @@ impl Ledger {
         requires slots { 0 < self.old.slots }
         requires seat { renderer < self.old.rules.renderers }
         requires may_join { MayJoin (entries_of decided.entries) (log_of self.old.history) }
+        requires fit { KeepsFit self.old.rules (entries_of decided.entries) (log_of self.old.history) }
         requires within { upto ≤ length (entries_of decided.entries ++ log_of self.old.history) }
         ensures rules { self.new.rules ≡ self.old.rules }
         ensures history { self.new.history ≡ with_telling renderer (told_of self.old.history renderer) upto (entered (entries_of decided.entries) ++ self.old.history) }
@@ -203,11 +202,7 @@ impl Ledger {
         ensures rules { self.new.rules ≡ self.old.rules }
         ensures history { self.new.history ≡ Entered (lost_entry renderer) ∷ self.old.history }
     {
-        let entry = loss_of(renderer);
-        match self.log.push(entry) {
-            Ok(()) => {}
-            Err(_) => unreachable!(),
-        }
+        push(&mut self.log, loss_of(renderer));
         self.lost[renderer as usize] = true;
     }
 
@@ -222,6 +217,44 @@ impl Ledger {
         let at = self.log.len();
         self.tellings.add(Telling { renderer, upto, at });
     }
+}
+
+// Appends an entry, for which there is room.
+fn push(log: &mut Log, entry: Entry)
+    requires room { 0 < log.old.room }
+    requires few { length log.old.entries < 2 ^ 31 }
+    requires keys { HasAscendingKeys entry.what }
+    ensures entries { log.new.entries ≡ entry ∷ log.old.entries }
+    ensures room { log.new.room ≡ log.old.room - 1 }
+{
+    match log.push(entry) {
+        Ok(()) => {}
+        Err(_) => unreachable!(),
+    }
+}
+
+// Appends the entries of a decision, for which there is room.
+fn push_made(log: &mut Log, made: Made)
+    requires room { 2 ≤ log.old.room }
+    requires few { length log.old.entries < 2 ^ 30 }
+    requires each { AllJoin (entries_of made) }
+    ensures { log.new.entries ≡ entries_of made ++ log.old.entries }
+{
+    match made {
+        Made::Nothing => {}
+        Made::One(entry) => push(log, entry),
+        Made::Two { first, second } => {
+            push(log, first);
+            push(log, second);
+        }
+    }
+}
+
+// Tells what the types of a log's origins and URLs promise.
+fn know_range(log: &Log)
+    ensures { AreInRange log.now.entries }
+{
+    let _entries = log.entries();
 }
 
 // The mark of a renderer; false where there is none.

@@ -9,6 +9,7 @@ mod answering;
 mod asked;
 mod desk;
 mod item;
+pub mod laws;
 mod ledger;
 mod starts;
 mod telling;

@@ -1,4 +1,7 @@
 use Rattle.std.proofs.Common.{◌≡◌, ◌∙◌, length, ap, sym, subst, arith}
+use Rattle.coordinator_rules.specs.Decision.{Rules}
+use Rattle.exchange_laws.specs.Fit.{IsFitLog}
+use Rattle.request_decisions.specs.Asked.{rules}
 use Rattle.tree_log.specs.Admits.{AreAdmitted}
 use Rattle.tree_log.specs.declared.entry.Entry.{Entry}
 use Rattle.desk.specs.History.{log_of}
@@ -23,3 +26,7 @@ returns-clause-few c =
     let m = c.self.invariant.marks in
     let n = c.self.invariant.not_many in
     omega arith
+
+pub returns-clause-fit : goal.returns-clause-fit
+returns-clause-fit c =
+    subst (λ (by : Rules). IsFitLog by (log_of c.args.self.now.history)) (ap (λ v. v.rules) c.self.view_is) (subst (IsFitLog (rules c.self.inside.renderers c.self.inside.suffixes.items)) (sym (is_log c)) c.self.invariant.fit)
