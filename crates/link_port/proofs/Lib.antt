@@ -1,0 +1,10 @@
+pub mod Told
+pub mod Heard
+pub mod Naming
+pub mod Answering
+pub mod Decided
+pub mod Reading
+pub mod Linked
+pub mod InRange
+pub mod Exchanged
+pub mod Called

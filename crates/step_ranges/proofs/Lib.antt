@@ -1,0 +1,9 @@
+pub mod Texts
+pub mod PageOrigins
+pub mod Spelled
+pub mod Logs
+pub mod Values
+pub mod Attributes
+pub mod Reached
+pub mod Changed
+pub mod Fitting
