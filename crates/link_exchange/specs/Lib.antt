@@ -1,0 +1,4 @@
+pub mod Beginning
+pub mod Hearing
+pub mod Calls
+pub mod Ending
