@@ -7,3 +7,4 @@ pub mod Attributes
 pub mod Reached
 pub mod Changed
 pub mod Fitting
+pub mod Asking

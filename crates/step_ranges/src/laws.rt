@@ -7,7 +7,7 @@ ghost use Rattle.agent_terms.specs.declared.step.Step.{Step};
 ghost use Rattle.coordinator_rules.specs.Decision.{asker_of};
 ghost use Rattle.exchange_laws.specs.Fit.{AreFit};
 ghost use Rattle.object_access.specs.Registers.{task_written, unset};
-ghost use Rattle.object_access.specs.StepAnswer.{first_stores, perform, step_stores};
+ghost use Rattle.object_access.specs.StepAnswer.{Sight, first_stores, perform, step_stores};
 ghost use Rattle.agent_laws.specs.Actors.{has_no_asker};
 ghost use Rattle.std.specs.Prelude.{ℕ, ◌≡◌, ◌<◌, ◌^◌, ◌++◌, false, length, List, true};
 ghost use Rattle.step_ranges.specs.Ranges.{AreAtHand, StoresAtHand, is_at_hand, is_request_short, is_step_short};
@@ -46,4 +46,9 @@ pub fn values_stay_in_range()
         StoresAtHand (tree_of log) stores → StoresAtHand (tree_of (more ++ log)) stores }
     ensures message { (log : List Entry) (what : What) (registers : ℕ → List ℕ → Value) → AreAdmitted log → AreFit log →
         AreAtHand (tree_of log) registers → AreAtHand (tree_of log) (task_written log what registers) }
+{}
+
+/// A step that asks the coordinator changes no property.
+pub fn asking_changes_no_property()
+    ensures { (s : Sight) (d : ℕ) (st : Step) (q : Request) → perform s d st ≡ Ask q → step_stores s d st ≡ s.stores }
 {}

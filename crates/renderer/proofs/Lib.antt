@@ -1,0 +1,4 @@
+mod Ending
+mod Kept
+mod Performing
+pub mod Sounding
