@@ -19,7 +19,8 @@ use Rattle.single_agent.specs.LostAct.{lost_act}
 use Rattle.single_agent.specs.NextAct.{answer_of}
 use Rattle.single_agent.specs.Running.{Left}
 use Rattle.link_wire.specs.declared.link.Link.{Ghosts}
-use Rattle.link_wire.specs.Links.{names_what_is_there}
+use Rattle.link_wire.specs.Links.{is_fit, names_what_is_there}
+use Rattle.link_wire.specs.Requests.{IsRequest}
 use Rattle.link_exchange.specs.Calls.{Course, Told, Fails, Strays, Starves, Exchanges}
 use Rattle.link_exchange.specs.Hearing.{Extends}
 use Rattle.renderer.specs.declared.turn.Turn.{Turn}
@@ -76,6 +77,8 @@ Ends w left move Starves turn v = ⊥
 
 -- the renderer asks this over the link, and then for the rest of what is to be told
 pub record Converses {L : Type 0} (link : Ghosts L) (w : Holds) (left : Option Left) (move : Move) (request : Request) (l : L) (turn : Turn) (v : Holds) (m : L) : Type 0 where
+  pub range : IsRequest request                              -- a frame spells it
+  pub own : is_fit w.renderer w.heard request ≡ true         -- of a document of its own, or of none
   pub course : Course
   pub calls : Exchanges link w.renderer l w.heard None request course m
   pub ends : Ends w left move course turn v

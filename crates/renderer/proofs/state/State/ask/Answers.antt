@@ -23,6 +23,8 @@ returns-in_ok-turn-in-Told-clause-ok g c =
     let ends : StepEnds w c.args.run.doc c.args.run.point (op_of step) (Some (left_at c.args.run step)) c.exchange.new.replica c.in-Told.outcome c.in_ok-turn-in-Told.turn v =
     step_ends w v c.args.run.doc c.args.run.point (op_of step) (Some (left_at c.args.run step)) c.exchange.new.replica c.in-Told.outcome c.in_ok-turn-in-Told.turn (step_outcome c.args.request.now c.in-Told.outcome c.requires.asker replied.0) told.full told.answer in
     record {
+      range = c.know_request.ensures;
+      own = c.requires.fit;
       course = Told c.exchange.new.replica c.in-Told.outcome;
       calls = rw c.in-Told.is at c.in_ok-outcome.ensures.ended;
       ends = (replied.1, ends);

@@ -1,0 +1,4 @@
+pub mod HomedBefore
+pub mod Moving
+pub mod ToldTasks
+pub mod Kept
