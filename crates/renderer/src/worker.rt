@@ -1,4 +1,5 @@
 ghost use Rattle.std.specs.Prelude.{◌≡◌, reverse, true, IfOk, OnOk, OnErr};
+ghost use Rattle.single_agent.specs.Lengths.{has_stopped};
 ghost use Rattle.single_agent.specs.NextMove.{move_request};
 ghost use Rattle.step_ranges.specs.Ranges.{are_pages_short};
 ghost use Rattle.renderer.specs.Calls.{GivesUp, IsHonest, StopsByFault};
@@ -43,6 +44,13 @@ impl<'a, V: EmptyView> Worker<'a, V> {
         ensures { reverse result.now ≡ (held self.now).acts }
     {
         self.state.acts.acts()
+    }
+
+    /// Whether the newest act was lost: it makes no step any more. It takes no memory.
+    pub fn has_stopped(&self) -> bool
+        ensures { result ≡ has_stopped (held self.now).acts }
+    {
+        self.state.acts.has_stopped()
     }
 
     /// How many entries were heard, but for those of an exchange that failed. It takes no memory.

@@ -1,0 +1,4 @@
+pub mod Standing
+pub mod Faring
+pub mod Playing
+pub mod Talking
