@@ -1,0 +1,12 @@
+use Rattle.std.proofs.Common.{refl, ⊎_elim}
+use Rattle.std.proofs.lemmas.Bool.{cases_Bool}
+use Rattle.std.proofs.lemmas.Str.{IsUtf8-from_is_utf8, is_utf8-from_IsUtf8}
+use Rattle.std.specs.Str.{is_utf8}
+use Rattle.byte_answers.proofs.texts.text_of.Goals as goal
+
+pub returns-in-Ok : goal.returns-in-Ok
+returns-in-Ok c = (c.in-Ok.ensures.cases.0, is_utf8-from_IsUtf8 _ c.in-Ok.ensures.cases.1)
+
+pub returns-in-Err : goal.returns-in-Err
+returns-in-Err c =
+    (refl, ⊎_elim (λ yes. absurd (c.in-Err.ensures.cases.0 (IsUtf8-from_is_utf8 _ yes))) (λ no. no) (cases_Bool (is_utf8 c.args.bytes.now)))

@@ -1,0 +1,2 @@
+mod Pointers
+mod Short
