@@ -1,0 +1,16 @@
+mod Naming
+mod Ascending
+mod FamilyRows
+mod Members
+mod Marking
+mod Carried
+mod RowsRead
+mod Firsts
+mod Upkeep
+mod Calm
+mod Filters
+mod Cutting
+mod ChildLists
+mod Growing
+mod Followed
+mod Added
