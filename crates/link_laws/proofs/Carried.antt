@@ -42,3 +42,17 @@ module _ {L K : Type 0} (link : Ghosts L) (inner : Ghosts K) (inside : L → K) 
   kept_on l m heard pending q course asks is (Ends _ _ _ _ _ bytes answer call answered last) = on.kept l m q (Ok tt) bytes asks is call
   kept_on l m heard pending q course asks is (Goes_on _ mid _ _ _ _ bytes answer _ call answered more rest) =
       kept_on mid m (reverse answer.news ++ heard) (under_way (length heard) pending q answer) More course on.more (on.kept l mid q (Ok tt) bytes asks is call) rest
+
+-- what is so of each call's link before and after it is so of a whole exchange's
+pub kept_so : {L : Type 0} (link : Ghosts L) (S : L → L → Type 0) → ((l : L) → S l l) → ((k l m : L) → S k l → S l m → S k m)
+    → ((l m : L) (q : Request) (result : Result (Unit {0}) LinkError) (bytes : List ℕ) → IsCall link l q result bytes m → S l m)
+    → (r : ℕ) (l m : L) (heard : List Entry) (pending : Option Pending) (q : Request) (course : Course) → Exchanges link r l heard pending q course m → S l m
+kept_so link S at_once then by_call r l m heard pending q course (Unasked _ _ _ _) = at_once l
+kept_so link S at_once then by_call r l m heard pending q course (Unanswered _ _ _ _ _ bytes call) = by_call l m q (Err NoMemory) bytes call
+kept_so link S at_once then by_call r l m heard pending q course (Unread _ _ _ _ _ bytes call) = by_call l m q (Ok tt) bytes call
+kept_so link S at_once then by_call r l m heard pending q course (Fails_now _ _ _ _ _ bytes call) = by_call l m q (Err Failed) bytes call
+kept_so link S at_once then by_call r l m heard pending q course (Strays_now _ _ _ _ _ bytes place call stray) = by_call l m q (Ok tt) bytes call
+kept_so link S at_once then by_call r l m heard pending q course (Ends _ _ _ _ _ bytes answer call answered last) = by_call l m q (Ok tt) bytes call
+kept_so link S at_once then by_call r l m heard pending q course (Goes_on _ mid _ _ _ _ bytes answer _ call answered more rest) =
+    then l mid m (by_call l mid q (Ok tt) bytes call)
+    (kept_so link S at_once then by_call r mid m (reverse answer.news ++ heard) (under_way (length heard) pending q answer) More course rest)

@@ -1,11 +1,24 @@
 -- Links over a coordinator that no one else talks to: with a gate before it, and without.
-use Rattle.std.proofs.Common.{ℕ, Some, refl}
+use Rattle.std.proofs.Common.{ℕ, List, Bool, true, false, Option, Some, Ok, Err, refl, sym, subst, ◌∙◌}
+use Rattle.std.specs.Prelude.{Result}
+use Rattle.agent_terms.specs.declared.request.Request.{Request}
 use Rattle.desk.specs.Serving.{Coordinator}
+use Rattle.link_exchange.specs.Calls.{Course, Exchanges}
 use Rattle.link_port.specs.Direct as direct
+use Rattle.link_port.specs.Failing.{Passes, Refuses, refuses, RefusesOr}
 use Rattle.link_port.specs.Gated.{inside}
 use Rattle.link_port.specs.declared.direct.DirectLink.{DirectLink}
+use Rattle.link_port.specs.declared.failing.FailingLink.{FailingLink}
 use Rattle.link_port.specs.declared.gated.GatedLink.{GatedLink}
 use Rattle.link_wire.specs.declared.link.Link.{Ghosts}
+use Rattle.link_wire.specs.declared.link.LinkError.{LinkError}
+use Rattle.link_wire.specs.declared.link.LinkError.TheVariants.{Failed, NoMemory}
+use Rattle.link_wire.specs.Links.{Pending}
+use Rattle.link_wire.specs.Requests.{request_frame}
+use Rattle.tree_log.specs.declared.entry.Entry.{Entry}
+use Rattle.link_laws.specs.Playing.{inmost}
+use Rattle.link_laws.proofs.Carried.{kept_so}
+use Rattle.link_laws.proofs.Failing.{failing}
 use Rattle.link_laws.proofs.Gated.{gated}
 use Rattle.link_laws.proofs.Served.{IsOver}
 
@@ -42,3 +55,31 @@ gated_over = record {
   stays = λ l m bytes reply h. h.0.seat;
   served = λ l m bytes reply h. h.1;
 }
+
+-- IT STAYS OVER THE SAME COORDINATOR
+
+same_by : {V : Type 0} {g : _} (old new : DirectLink V g) (request reply : List ℕ) (result : Result (Unit {0}) LinkError) → direct.Exchanges old request result reply new → direct.IsSame old new
+same_by old new request reply (Ok x) h = h.0
+same_by old new request reply (Err NoMemory) h = h.0
+same_by old new request reply (Err Failed) h = absurd h
+
+itself : {V : Type 0} {g : _} (l : DirectLink V g) → direct.IsSame l l
+itself l = record { seat = refl; desk = refl }
+
+then_same : {V : Type 0} {g : _} (k l m : DirectLink V g) → direct.IsSame k l → direct.IsSame l m → direct.IsSame k m
+then_same k l m a b = record { seat = b.seat ∙ a.seat; desk = b.desk ∙ a.desk }
+
+pub straight_same : {V : Type 0} {g : _} (r : ℕ) (l m : DirectLink V g) (heard : List Entry) (pending : Option Pending) (q : Request) (course : Course)
+    → Exchanges straight r l heard pending q course m → direct.IsSame l m
+straight_same = kept_so straight direct.IsSame itself then_same (λ l m q result bytes call. same_by l m (request_frame q) bytes result call.relation)
+
+inmost_by : {V G : Type 0} {g : _} (old new : FailingLink (GatedLink (DirectLink V g) G)) (request reply : List ℕ) (result : Result (Unit {0}) LinkError) (b : Bool)
+    → RefusesOr b (Refuses old result reply new) (Passes (gated straight).relation old request result reply new) → direct.IsSame (inmost old) (inmost new)
+inmost_by old new request reply result true h = subst (λ x. direct.IsSame (inmost old) (inside x)) (sym h.inside) (itself (inmost old))
+inmost_by old new request reply result false h = same_by (inmost old) (inmost new) request h.bytes h.answer h.inside
+
+pub inmost_same : {V G : Type 0} {g : _} (r : ℕ) (l m : FailingLink (GatedLink (DirectLink V g) G)) (heard : List Entry) (pending : Option Pending) (q : Request) (course : Course)
+    → Exchanges (failing (gated straight)) r l heard pending q course m → direct.IsSame (inmost l) (inmost m)
+inmost_same =
+    kept_so (failing (gated straight)) (λ l m. direct.IsSame (inmost l) (inmost m)) (λ l. itself (inmost l)) (λ k l m. then_same (inmost k) (inmost l) (inmost m))
+    (λ l m q result bytes call. inmost_by l m (request_frame q) bytes result (refuses l (request_frame q)) call.relation)

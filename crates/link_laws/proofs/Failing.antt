@@ -16,7 +16,7 @@ use Rattle.link_wire.specs.declared.link.LinkError.TheVariants.{Failed, NoMemory
 use Rattle.link_wire.specs.Links.{AnswersFit, Counts, FailsByFault, GoesOn, Hears, Pending, Stays, step_of, under_way}
 use Rattle.link_wire.specs.Requests.{request_frame}
 use Rattle.link_laws.specs.Faring.{calls_with, Fares, first_counts, Unmade, Refused, Dropped, Passed}
-use Rattle.link_laws.proofs.Carried.{carried, kept_on, Passes_on}
+use Rattle.link_laws.proofs.Carried.{carried, kept_on, kept_so, Passes_on}
 
 -- what is said of a link that fails at one call
 abbrev pub failing : {L : Type 0} → Ghosts L → Ghosts (FailingLink L)
@@ -296,13 +296,5 @@ module _ {L : Type 0} (link : Ghosts L) where
   same_by l m q result bytes call = same_once l m q result bytes (refuses l (request_frame q)) call.relation
 
   pub stays_same : (r : ℕ) (l m : FailingLink L) (heard : List Entry) (pending : Option Pending) (q : Request) (course : Course) → Exchanges (failing link) r l heard pending q course m → IsSame l m
-  stays_same r l m heard pending q course (Unasked _ _ _ _) = record { number = refl; served = refl }
-  stays_same r l m heard pending q course (Unanswered _ _ _ _ _ bytes call) = same_by l m q (Err NoMemory) bytes call
-  stays_same r l m heard pending q course (Unread _ _ _ _ _ bytes call) = same_by l m q (Ok tt) bytes call
-  stays_same r l m heard pending q course (Fails_now _ _ _ _ _ bytes call) = same_by l m q (Err Failed) bytes call
-  stays_same r l m heard pending q course (Strays_now _ _ _ _ _ bytes place call stray) = same_by l m q (Ok tt) bytes call
-  stays_same r l m heard pending q course (Ends _ _ _ _ _ bytes answer call answered last) = same_by l m q (Ok tt) bytes call
-  stays_same r l m heard pending q course (Goes_on _ mid _ _ _ _ bytes answer _ call answered more rest) =
-      let first = same_by l mid q (Ok tt) bytes call in
-      let later = stays_same r mid m (reverse answer.news ++ heard) (under_way (length heard) pending q answer) ask.More course rest in
-      record { number = later.number ∙ first.number; served = later.served ∙ first.served }
+  stays_same = kept_so (failing link) IsSame (λ l. record { number = refl; served = refl })
+      (λ k l m a b. record { number = b.number ∙ a.number; served = b.served ∙ a.served }) same_by

@@ -1,4 +1,4 @@
-//! Each function does nothing: its contract is the law.
+//! Laws of exchanges over links. Each function does nothing: its contract is the law.
 ghost use Rattle.std.specs.Prelude.{◌≡◌, ◌≤◌, ◌-◌, ◌^◌, ℕ, List, Option, None, true, false};
 ghost use Rattle.agent_terms.specs.declared.request.ReplyOutcome.{ReplyOutcome};
 ghost use Rattle.agent_terms.specs.declared.request.Request.{Request};
@@ -22,7 +22,9 @@ use link_port::{DirectLink, FailingLink, Gate, GatedLink};
 use link_wire::Link;
 use tree_view::View;
 
-/// An exchange with a coordinator neither fails nor strays.
+/// Over a coordinator that no one else talks to: it decides once, on the request, and each call for the rest of the reply only tells the
+/// next entries, until the renderer has heard all of the log. The exchange neither fails nor strays, and the link stays over the same
+/// coordinator. Frames are to spell the log before the exchange and after it, as a coordinator says of its log.
 pub fn an_exchange_over_a_coordinator<V: View + Drop>()
     ensures told { (l m : links.DirectLink V _) (q : Request) (now : List Entry) (outcome : ReplyOutcome) → IsRequest q →
         Stands (direct.seat l) (direct.below l) → HasFitLog (direct.below m) →
@@ -33,6 +35,8 @@ pub fn an_exchange_over_a_coordinator<V: View + Drop>()
     ensures strays { (l m : links.DirectLink V _) (q : Request) (place : ℕ) → IsRequest q → is_fit (direct.seat l) (direct.heard l) q ≡ true →
         direct.pending l ≡ None →
         Exchanges ⟦<DirectLink<'static, V> as Link>⟧ (direct.seat l) l (direct.heard l) None q (Strays place) m → ⊥ }
+    ensures same { (r : ℕ) (l m : links.DirectLink V _) (heard : List Entry) (pending : Option Pending) (q : Request) (course : Course) →
+        Exchanges ⟦<DirectLink<'static, V> as Link>⟧ r l heard pending q course m → direct.IsSame l m }
 {}
 
 /// An exchange behind a gate is one of the link inside, and ends as that does.
@@ -42,10 +46,11 @@ pub fn an_exchange_behind_a_gate<L: Link, G: Gate>()
         Exchanges L.Link r (gate.inside l) heard pending q course (gate.inside m) }
 {}
 
-/// A link that fails at one call, and hasn't failed yet: how an exchange over it ends. The faults of the link inside are counted to
-/// 2^64 - 1 at most.
+/// How an exchange ends over a link that fails at one call, and hasn't failed yet. The link inside counts its faults to 2^64 - 1 at
+/// most, as each link does.
 pub fn an_exchange_over_a_failing_link<L: Link>()
-    ensures fares { ((x : L) → L.faults x ≤ 2 ^ 64 - 1) → (r : ℕ) (l m : fallible.FailingLink L) (heard : List Entry) (pending : Option Pending) (q : Request) (course : Course) →
+    ensures fares { ((x : L) → L.faults x ≤ 2 ^ 64 - 1) →
+        (r : ℕ) (l m : fallible.FailingLink L) (heard : List Entry) (pending : Option Pending) (q : Request) (course : Course) →
         (q ≡ More → ⊥) → failing.has_failed l ≡ false →
         Exchanges ⟦<FailingLink<L> as Link>⟧ r l heard pending q course m →
         Fares L.Link r l heard pending q m course }
@@ -53,8 +58,8 @@ pub fn an_exchange_over_a_failing_link<L: Link>()
         Exchanges ⟦<FailingLink<L> as Link>⟧ r l heard pending q course m → failing.IsSame l m }
 {}
 
-/// Put together: how an exchange ends over a link that was just made, that fails at a call, and that passes a gate to a coordinator. It
-/// never strays.
+/// Put together: how an exchange ends over a link that was just made, that fails at one call, and that passes a gate to a coordinator.
+/// It never strays, and the link stays over the same coordinator.
 pub fn an_exchange_in_a_play<V: View + Drop, G: Gate>()
     ensures ends { (l m : fallible.FailingLink (gates.GatedLink (links.DirectLink V _) G)) (q : Request) (course : Course) →
         play.IsReady l q → IsRequest q → (q ≡ More → ⊥) → HasFitLog (play.below m) →
@@ -63,4 +68,7 @@ pub fn an_exchange_in_a_play<V: View + Drop, G: Gate>()
     ensures strays { (l m : fallible.FailingLink (gates.GatedLink (links.DirectLink V _) G)) (q : Request) (place : ℕ) →
         play.IsReady l q → IsRequest q → (q ≡ More → ⊥) →
         Exchanges ⟦<FailingLink<GatedLink<'static, DirectLink<'static, V>, G>> as Link>⟧ (play.seat l) l (play.heard l) None q (Strays place) m → ⊥ }
+    ensures same { (r : ℕ) (l m : fallible.FailingLink (gates.GatedLink (links.DirectLink V _) G)) (heard : List Entry) (pending : Option Pending)
+        (q : Request) (course : Course) →
+        Exchanges ⟦<FailingLink<GatedLink<'static, DirectLink<'static, V>, G>> as Link>⟧ r l heard pending q course m → play.IsSame l m }
 {}

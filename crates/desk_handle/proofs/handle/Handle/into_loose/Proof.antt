@@ -21,7 +21,6 @@ use denote.Steps.{nothing, heard}
 use denote.Triple.Walked.{Stays, stay_dropped, walk_of}
 use Rattle.std.specs.Prelude.{Option, Some, is_some, IsTrue}
 use Rattle.std.specs.Box.Ownership.{box_owns}
-use Rattle.libc.specs.Heap.{chunk}
 use Rattle.std.proofs.alloc.Calls.{Goes-blank, handle_tells}
 use Rattle.std.proofs.raw_atomic.Walks.{proved_at, leaves}
 use Rattle.std.specs.contracts.alloc.Global as heap
@@ -47,7 +46,7 @@ into_loose_spec 𝓤 𝓛 𝓜 𝓡 wired =
     let Post : Val → SProp 𝓤 = (walk_of 𝓛 En hs c).post z in let Run : List Val → SProp 𝓤 = λ ws. WpFn 𝓤 H 𝓣.C 𝓣.Λ code.function ws Post in
     qed 𝓛 ((‵ ftrue ⊛ ‵ (owns (types_at En.signature.params z.0.0) z.0.3 z.0.4)) ∷ raw (fact 𝓤 (IsTrue (is_some d.desk))) ∷ []) ∵ move ! (1 ∷ []) $ heard ! (IsTrue (is_some d.desk)) (λ there. let got = some_of d.desk there in let x : Boxed = record { desk = got.0 } in let is : d.desk ≡ Some got.0 = got.1 in
     split ! $ move ! (1 ∷ []) $ fsplit ! $ handle_out ! d z.0.4.0 (λ ed. rewrite ! 0 (λ (m : Option Coordinator). ‵ (handle_owns d.at m)) is refl $
-    in_a_block ! d.at (λ p. box_owns chunk R p x) (fst∗ 𝓤 (never 𝓤) (sem 𝓛 (chunk (bare (lone R.mir)) null_ptr))) (λ b o e. let p : Ptr = block_ptr b o in
+    in_a_block ! d.at (λ p. box_owns (ghosts.dealloc_token (record { memory = record { seal = tt } })) R p x) (fst∗ 𝓤 (never 𝓤) (sem 𝓛 (ghosts.dealloc_token (record { memory = record { seal = tt } }) (bare (lone R.mir)) null_ptr))) (λ b o e. let p : Ptr = block_ptr b o in
     move ! (1 ∷ []) $ fsplit ! $ handle_tells (al R Z LZ ghosts) ! a z.0.4.1.0 (λ h ea fits. let us : List Val = word p ∷ h ∷ [] in
     let made : z.0.4.0 ++ (z.0.4.1.0 ++ []) ≡ us = λ i. (ed ∙ ap (λ (m : Ptr). word m ∷ []) e) i ++ (ea i ++ []) in
     suffices ! (Run us) (subst (λ (ws : List Val). ent 𝓤 (Run us) (Run ws)) (sym made) (id⊢ 𝓤 (Run us))) $
