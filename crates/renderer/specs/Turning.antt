@@ -77,8 +77,8 @@ Ends w left move Starves turn v = ⊥
 
 -- the renderer asks this over the link, and then for the rest of what is to be told
 pub record Converses {L : Type 0} (link : Ghosts L) (w : Holds) (left : Option Left) (move : Move) (request : Request) (l : L) (turn : Turn) (v : Holds) (m : L) : Type 0 where
-  pub range : IsRequest request                              -- a frame spells it
-  pub own : is_fit w.renderer w.heard request ≡ true         -- of a document of its own, or of none
+  pub range : IsRequest request  -- a frame spells it
+  pub own : is_fit w.renderer w.heard request ≡ true  -- of a document of its own, or of none
   pub course : Course
   pub calls : Exchanges link w.renderer l w.heard None request course m
   pub ends : Ends w left move course turn v

@@ -1,0 +1,4 @@
+pub mod Leaves
+pub mod Rounds
+pub mod Stepping
+pub mod Turned
