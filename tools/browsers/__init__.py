@@ -1,0 +1,1 @@
+"""What the programs tools/view, tools/replay, tools/hunt and tools/browser-table are made of."""
