@@ -174,7 +174,7 @@ log_lost s r log q false there legal = Gave_up log r legal there
 never_loss : (r : ℕ) (e : Entry) → e.by ≡ Some r → is_loss r e ≡ false
 never_loss r e by = rw by refl
 
-own_no_loss : (r : ℕ) (own log : List Entry) → AreBy r own → is_lost_on r log ≡ false → is_lost_on r (own ++ log) ≡ false
+pub own_no_loss : (r : ℕ) (own log : List Entry) → AreBy r own → is_lost_on r log ≡ false → is_lost_on r (own ++ log) ≡ false
 unfolding is_lost_on
 own_no_loss r [] log by h = h
 own_no_loss r (e ∷ own) log by h = rw (never_loss r e by.0) (own_no_loss r own log by.1 h)
@@ -288,7 +288,7 @@ acts_by s r log [] mine h = subst (AreBy r) (sym h) tt
 acts_by s r log (a ∷ older) mine h =
     subst (AreBy r) (sym h.4) (both_by r h.0 h.1 (made_by s r (prefix h.2.before log) older a h.0 h.2.made) (acts_by s r log older h.1 h.3))
 
-not_lost_yet : (s : Session) (r : ℕ) (log : List Entry) (acts : List Act) → IsLegalRecord s r log acts → has_stopped acts ≡ false → is_lost_on r log ≡ false
+pub not_lost_yet : (s : Session) (r : ℕ) (log : List Entry) (acts : List Act) → IsLegalRecord s r log acts → has_stopped acts ≡ false → is_lost_on r log ≡ false
 not_lost_yet s r log acts legal goes =
     no_loss r log (subst (AreBy r) (sym (goes_on_about r log acts legal.0 goes legal.2)) (acts_by s r log acts legal.0 legal.1))
 
