@@ -39,6 +39,13 @@ impl<'a, V: EmptyView> Worker<'a, V> {
         Ok(Worker { state })
     }
 
+    /// Its number. It takes no memory.
+    pub fn renderer(&self) -> u16
+        ensures { result ≡ (held self.now).renderer }
+    {
+        self.state.renderer
+    }
+
     /// The acts, the oldest first. It takes no memory.
     pub fn acts(&self) -> &[Act]
         ensures { reverse result.now ≡ (held self.now).acts }
