@@ -1,9 +1,8 @@
 ghost use Rattle.std.specs.Prelude.{◌≡◌};
 ghost use Rattle.byte_frames.specs.Numbers as spec;
-ghost use Rattle.frame_grammar.specs.Outcomes as outcomes;
 
-use agent_terms::{ReplyOutcome, Request, Why};
-use link_wire::{Bad, Reply, outcome_kind};
+use agent_terms::{ReplyOutcome, Request};
+use link_wire::{Bad, Reply, outcome_kind, why_number};
 
 /// The numbers of a request; 0 and false where its kind has no such one.
 #[repr(C)]
@@ -119,21 +118,6 @@ pub(crate) fn numbers_of(request: &Request) -> RequestNumbers
         Request::Post { asker, doc, .. } => plain(11, *asker, *doc),
         Request::Domain { asker, .. } => plain(12, *asker, 0),
         Request::More => plain(13, 0, 0),
-    }
-}
-
-fn why_number(why: Why) -> u8
-    ensures { result ≡ outcomes.why_number why }
-{
-    match why {
-        Why::Version => 0,
-        Why::Kind => 1,
-        Why::Length => 2,
-        Why::Short => 3,
-        Why::Text => 4,
-        Why::Range => 5,
-        Why::Url => 6,
-        Why::Tail => 7,
     }
 }
 

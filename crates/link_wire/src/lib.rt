@@ -34,5 +34,5 @@ pub use link::{Link, LinkError};
 pub use reader::{Fed, FrameReader};
 pub use replies::{decode_reply, encode_reply, outcome_kind};
 pub use reply::Reply;
-pub use reply_rows::put_outcome;
+pub use reply_rows::{put_outcome, why_number};
 pub use requests::{decode_request, encode_request};

@@ -38,7 +38,8 @@ fn why_of(number: u8) -> Why
     }
 }
 
-fn why_number(why: Why) -> u8
+/// The number that spells why bytes are no frame, from 0 to 7. It takes no memory.
+pub fn why_number(why: Why) -> u8
     ensures { result ≡ outcomes.why_number why }
 {
     match why {

@@ -1,7 +1,6 @@
 -- How a play begins.
-use Rattle.std.proofs.Common.{◌≡◌, ℕ, zero, suc, List, [], ◌∷◌, ◌++◌, length, Some, None, refl, sym, ap, subst, ◌∙◌, arith, inl, inr}
-use Rattle.std.specs.Prelude.{slice_get, false}
-use mathlib.Core.Logic.{◌⊎◌}
+use Rattle.std.proofs.Common.{◌≡◌, ℕ, List, [], length, None, refl, sym, ap, subst, ◌∙◌, arith, inl}
+use Rattle.std.specs.Prelude.{false}
 use Rattle.agent_terms.specs.declared.act.Act.{Act}
 use Rattle.agent_terms.specs.declared.session.Session.{Session}
 use Rattle.coordinator_rules.specs.Decision.{rules_of}
@@ -83,21 +82,3 @@ begins_underway s c seats rules log told serves count are_fresh = record {
   seated = λ r x at.
       subst (IsSeated s [] c r) (sym (are_fresh r x at)) (refl, inl (fresh_goes s c r (told r)));
 }
-
--- THE RENDERERS
-
-abbrev fresh_seat : Session → ℕ → Seat
-fresh_seat s n = record { holds = fresh n s.pages; calls = 0 }
-
-get_back : {A : Type 0} (xs : List A) (x z : A) (r : ℕ) → slice_get (xs ++ x ∷ []) r ≡ Some z → (slice_get xs r ≡ Some z) ⊎ ((x ≡ z) × (r ≡ length xs))
-get_back [] x z zero h = inr (let e : x ≡ z = cc in e, refl)
-get_back [] x z (suc r) h = absurd cc
-get_back (y ∷ xs) x z zero h = inl h
-get_back (y ∷ xs) x z (suc r) h = elim (get_back xs x z r h) [ inl p ↦ inl p | inr p ↦ inr (p.0, ap suc p.1) ]
-
-pub fresh_more : (s : Session) (seats : List Seat) (x : Seat) (n : ℕ) → AreFresh s seats → n ≡ length seats → x ≡ record { holds = fresh n s.pages; calls = 0 } → AreFresh s (seats ++ x ∷ [])
-fresh_more s seats x n are_fresh many is r z at =
-    elim (get_back seats x z r at) [
-      | inl p ↦ are_fresh r z p
-      | inr p ↦ sym p.0 ∙ is ∙ ap (fresh_seat s) (many ∙ sym p.1)
-    ]

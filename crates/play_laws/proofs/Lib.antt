@@ -1,7 +1,7 @@
 pub mod Begins
+pub mod CanStep
 pub mod Leaves
 pub mod Losses
-pub mod Ready
 pub mod Rounds
 pub mod Stepping
 pub mod Turned

@@ -13,7 +13,7 @@ use Rattle.single_agent.specs.Turns.{is_served}
 use Rattle.turn_laws.specs.Playing.{Seat, StepsOver, number_of}
 
 -- renderer r can make a step: it is one of the coordinator's, which holds no loss of it, and it has heard what it was told
-pub record IsReady (r : ℕ) (x : Seat) (c : Coordinator) : Type 0 where
+pub record CanStep (r : ℕ) (x : Seat) (c : Coordinator) : Type 0 where
   pub renderer : x.holds.renderer ≡ r
   pub seat : r < c.rules.renderers
   pub heard : x.holds.heard ≡ heard_of r c.history

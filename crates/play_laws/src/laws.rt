@@ -12,7 +12,7 @@ ghost use Rattle.single_agent.specs.Lengths.{has_stopped};
 ghost use Rattle.single_agent.specs.Session.{lose_of, starts_of};
 ghost use Rattle.single_agent.specs.Turns.{Turned, next_renderer};
 ghost use Rattle.turn_laws.specs.Playing.{Seat, StepsOver};
-ghost use Rattle.play_laws.specs.Stepping.{HasStepped, IsReady};
+ghost use Rattle.play_laws.specs.Stepping.{CanStep, HasStepped};
 ghost use Rattle.play_laws.specs.Underway.{AreFresh, IsPlayable, IsUnderway, TurnEnds};
 
 /// A coordinator that opened the start windows and told nothing, and renderers that hold nothing, are a play under way that has had no
@@ -23,9 +23,9 @@ pub fn a_play_begins()
 {}
 
 /// In a play under way a renderer that goes on can make a step.
-pub fn a_renderer_that_goes_on_is_ready()
+pub fn a_renderer_that_goes_on_can_step()
     ensures { (s : Session) (turns : List Turned) (c : Coordinator) (seats : List Seat) (n : ℕ) (x : Seat) →
-        IsUnderway s turns c seats → slice_get seats n ≡ Some x → n < length seats → has_stopped x.holds.acts ≡ false → IsReady n x c }
+        IsUnderway s turns c seats → slice_get seats n ≡ Some x → n < length seats → has_stopped x.holds.acts ≡ false → CanStep n x c }
 {}
 
 /// A step of a renderer appends no loss of it.

@@ -14,11 +14,11 @@ use Rattle.single_agent.proofs.Played.{legal_record}
 use Rattle.tree_log.specs.declared.entry.Entry.{Entry}
 use Rattle.tree_log.specs.Log.{prefix}
 use Rattle.turn_laws.specs.Playing.{Seat}
-use Rattle.play_laws.specs.Stepping.{IsReady}
+use Rattle.play_laws.specs.Stepping.{CanStep}
 use Rattle.play_laws.specs.Underway.{IsUnderway}
 
-pub ready : (s : Session) (turns : List Turned) (c : Coordinator) (seats : List Seat) (n : ℕ) (x : Seat) → IsUnderway s turns c seats → slice_get seats n ≡ Some x → n < length seats → has_stopped x.holds.acts ≡ false → IsReady n x c
-ready s turns c seats n x u at lt goes_on =
+pub can_step : (s : Session) (turns : List Turned) (c : Coordinator) (seats : List Seat) (n : ℕ) (x : Seat) → IsUnderway s turns c seats → slice_get seats n ≡ Some x → n < length seats → has_stopped x.holds.acts ≡ false → CanStep n x c
+can_step s turns c seats n x u at lt goes_on =
     let seat = u.seated n x at in
     elim seat.1 [
       | inl goes ↦
