@@ -5,7 +5,9 @@ use Rattle.agent_terms.specs.declared.request.Request.{Request}
 use Rattle.desk.specs.Serving.{Coordinator}
 use Rattle.link_exchange.specs.Calls.{Course, Exchanges}
 use Rattle.link_port.specs.Direct as direct
+use Rattle.link_port.specs.Failing as failed
 use Rattle.link_port.specs.Failing.{Passes, Refuses, refuses, RefusesOr}
+use Rattle.link_port.specs.Gated as gate
 use Rattle.link_port.specs.Gated.{inside}
 use Rattle.link_port.specs.declared.direct.DirectLink.{DirectLink}
 use Rattle.link_port.specs.declared.failing.FailingLink.{FailingLink}
@@ -20,6 +22,7 @@ use Rattle.link_laws.specs.Playing.{inmost}
 use Rattle.link_laws.proofs.Carried.{kept_so}
 use Rattle.link_laws.proofs.Failing.{failing}
 use Rattle.link_laws.proofs.Gated.{gated}
+use Rattle.link_laws.proofs.Gated.{itself as sits, then_same as sits_then}
 use Rattle.link_laws.proofs.Served.{IsOver}
 
 -- what is said of a link over a coordinator
@@ -52,8 +55,8 @@ gated_over = record {
   renderer = λ l. refl;
   heard = λ l. refl;
   faults = λ l. refl;
-  stays = λ l m bytes reply h. h.0.seat;
-  served = λ l m bytes reply h. h.1;
+  stays = λ l m bytes reply h. h.1.0.seat;
+  served = λ l m bytes reply h. h.1.1;
 }
 
 -- IT STAYS OVER THE SAME COORDINATOR
@@ -73,13 +76,18 @@ pub straight_same : {V : Type 0} {g : _} (r : ℕ) (l m : DirectLink V g) (heard
     → Exchanges straight r l heard pending q course m → direct.IsSame l m
 straight_same = kept_so straight direct.IsSame itself then_same (λ l m q result bytes call. same_by l m (request_frame q) bytes result call.relation)
 
-inmost_by : {V G : Type 0} {g : _} (old new : FailingLink (GatedLink (DirectLink V g) G)) (request reply : List ℕ) (result : Result (Unit {0}) LinkError) (b : Bool)
-    → RefusesOr b (Refuses old result reply new) (Passes (gated straight).relation old request result reply new) → direct.IsSame (inmost old) (inmost new)
-inmost_by old new request reply result true h = subst (λ x. direct.IsSame (inmost old) (inside x)) (sym h.inside) (itself (inmost old))
-inmost_by old new request reply result false h = same_by (inmost old) (inmost new) request h.bytes h.answer h.inside
+-- the links inside stay over the same ones
+abbrev IsSameInside : {V G : Type 0} {g : _} → FailingLink (GatedLink (DirectLink V g) G) → FailingLink (GatedLink (DirectLink V g) G) → Type 0
+IsSameInside old new = gate.IsSame (failed.inside old) (failed.inside new) × direct.IsSame (inmost old) (inmost new)
 
-pub inmost_same : {V G : Type 0} {g : _} (r : ℕ) (l m : FailingLink (GatedLink (DirectLink V g) G)) (heard : List Entry) (pending : Option Pending) (q : Request) (course : Course)
-    → Exchanges (failing (gated straight)) r l heard pending q course m → direct.IsSame (inmost l) (inmost m)
-inmost_same =
-    kept_so (failing (gated straight)) (λ l m. direct.IsSame (inmost l) (inmost m)) (λ l. itself (inmost l)) (λ k l m. then_same (inmost k) (inmost l) (inmost m))
-    (λ l m q result bytes call. inmost_by l m (request_frame q) bytes result (refuses l (request_frame q)) call.relation)
+inside_by : {V G : Type 0} {g : _} (old new : FailingLink (GatedLink (DirectLink V g) G)) (request reply : List ℕ) (result : Result (Unit {0}) LinkError) (b : Bool)
+    → RefusesOr b (Refuses old result reply new) (Passes (gated straight).relation old request result reply new) → IsSameInside old new
+inside_by old new request reply result true h = subst (λ x. gate.IsSame (failed.inside old) x × direct.IsSame (inmost old) (inside x)) (sym h.inside) (sits (failed.inside old), itself (inmost old))
+inside_by old new request reply result false h = (h.inside.0, same_by (inmost old) (inmost new) request h.bytes h.answer h.inside.1)
+
+pub inside_same : {V G : Type 0} {g : _} (r : ℕ) (l m : FailingLink (GatedLink (DirectLink V g) G)) (heard : List Entry) (pending : Option Pending) (q : Request) (course : Course)
+    → Exchanges (failing (gated straight)) r l heard pending q course m → IsSameInside l m
+inside_same =
+    kept_so (failing (gated straight)) IsSameInside (λ l. (sits (failed.inside l), itself (inmost l)))
+    (λ k l m a b. (sits_then (failed.inside k) (failed.inside l) (failed.inside m) a.0 b.0, then_same (inmost k) (inmost l) (inmost m) a.1 b.1))
+    (λ l m q result bytes call. inside_by l m (request_frame q) bytes result (refuses l (request_frame q)) call.relation)

@@ -296,5 +296,5 @@ module _ {L : Type 0} (link : Ghosts L) where
   same_by l m q result bytes call = same_once l m q result bytes (refuses l (request_frame q)) call.relation
 
   pub stays_same : (r : ℕ) (l m : FailingLink L) (heard : List Entry) (pending : Option Pending) (q : Request) (course : Course) → Exchanges (failing link) r l heard pending q course m → IsSame l m
-  stays_same = kept_so (failing link) IsSame (λ l. record { number = refl; served = refl })
-      (λ k l m a b. record { number = b.number ∙ a.number; served = b.served ∙ a.served }) same_by
+  stays_same = kept_so (failing link) IsSame (λ l. record { number = refl; served = refl; inner = refl })
+      (λ k l m a b. record { number = b.number ∙ a.number; served = b.served ∙ a.served; inner = b.inner ∙ a.inner }) same_by

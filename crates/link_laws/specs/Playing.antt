@@ -36,7 +36,8 @@ pub record IsReady {V G : Type 0} {g : _} (link : FailingLink (GatedLink (Direct
   pub stands : Stands (seat link) (below link)
   pub fit : is_fit (seat link) (heard link) request ≡ true
 
--- it fails at the same call, and it is the same renderer's, over the same coordinator
+-- it fails at the same call, and it is the same renderer's, over the same links and the same coordinator
 pub record IsSame {V G : Type 0} {g : _} (old new : FailingLink (GatedLink (DirectLink V g) G)) : Type 0 where
-  pub failing : failing.IsSame old new
+  pub outermost : failing.IsSame old new
+  pub between : gated.IsSame (failing.inside old) (failing.inside new)
   pub inmost : direct.IsSame (inmost old) (inmost new)

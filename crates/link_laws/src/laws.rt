@@ -39,11 +39,13 @@ pub fn an_exchange_over_a_coordinator<V: View + Drop>()
         Exchanges ⟦<DirectLink<'static, V> as Link>⟧ r l heard pending q course m → direct.IsSame l m }
 {}
 
-/// An exchange behind a gate is one of the link inside, and ends as that does.
+/// An exchange behind a gate is one of the link inside, and ends as that does. The link stays over the same one.
 pub fn an_exchange_behind_a_gate<L: Link, G: Gate>()
-    ensures { (r : ℕ) (l m : gates.GatedLink L G) (heard : List Entry) (pending : Option Pending) (q : Request) (course : Course) →
+    ensures inside { (r : ℕ) (l m : gates.GatedLink L G) (heard : List Entry) (pending : Option Pending) (q : Request) (course : Course) →
         Exchanges ⟦<GatedLink<'static, L, G> as Link>⟧ r l heard pending q course m →
         Exchanges L.Link r (gate.inside l) heard pending q course (gate.inside m) }
+    ensures same { (r : ℕ) (l m : gates.GatedLink L G) (heard : List Entry) (pending : Option Pending) (q : Request) (course : Course) →
+        Exchanges ⟦<GatedLink<'static, L, G> as Link>⟧ r l heard pending q course m → gate.IsSame l m }
 {}
 
 /// How an exchange ends over a link that fails at one call, and hasn't failed yet. The link inside counts its faults to 2^64 - 1 at
@@ -52,10 +54,10 @@ pub fn an_exchange_over_a_failing_link<L: Link>()
     ensures fares { ((x : L) → L.faults x ≤ 2 ^ 64 - 1) →
         (r : ℕ) (l m : fallible.FailingLink L) (heard : List Entry) (pending : Option Pending) (q : Request) (course : Course) →
         (q ≡ More → ⊥) → failing.has_failed l ≡ false →
-        Exchanges ⟦<FailingLink<L> as Link>⟧ r l heard pending q course m →
+        Exchanges ⟦<FailingLink<'static, L> as Link>⟧ r l heard pending q course m →
         Fares L.Link r l heard pending q m course }
     ensures same { (r : ℕ) (l m : fallible.FailingLink L) (heard : List Entry) (pending : Option Pending) (q : Request) (course : Course) →
-        Exchanges ⟦<FailingLink<L> as Link>⟧ r l heard pending q course m → failing.IsSame l m }
+        Exchanges ⟦<FailingLink<'static, L> as Link>⟧ r l heard pending q course m → failing.IsSame l m }
 {}
 
 /// Put together: how an exchange ends over a link that was just made, that fails at one call, and that passes a gate to a coordinator.
@@ -63,12 +65,12 @@ pub fn an_exchange_over_a_failing_link<L: Link>()
 pub fn an_exchange_in_a_play<V: View + Drop, G: Gate>()
     ensures ends { (l m : fallible.FailingLink (gates.GatedLink (links.DirectLink V _) G)) (q : Request) (course : Course) →
         play.IsReady l q → IsRequest q → (q ≡ More → ⊥) → HasFitLog (play.below m) →
-        Exchanges ⟦<FailingLink<GatedLink<'static, DirectLink<'static, V>, G>> as Link>⟧ (play.seat l) l (play.heard l) None q course m →
+        Exchanges ⟦<FailingLink<'static, GatedLink<'static, DirectLink<'static, V>, G>> as Link>⟧ (play.seat l) l (play.heard l) None q course m →
         Talks (play.seat l) (failing.number l) (failing.is_served l) (play.below l) (play.below m) q (failing.calls m) course }
     ensures strays { (l m : fallible.FailingLink (gates.GatedLink (links.DirectLink V _) G)) (q : Request) (place : ℕ) →
         play.IsReady l q → IsRequest q → (q ≡ More → ⊥) →
-        Exchanges ⟦<FailingLink<GatedLink<'static, DirectLink<'static, V>, G>> as Link>⟧ (play.seat l) l (play.heard l) None q (Strays place) m → ⊥ }
+        Exchanges ⟦<FailingLink<'static, GatedLink<'static, DirectLink<'static, V>, G>> as Link>⟧ (play.seat l) l (play.heard l) None q (Strays place) m → ⊥ }
     ensures same { (r : ℕ) (l m : fallible.FailingLink (gates.GatedLink (links.DirectLink V _) G)) (heard : List Entry) (pending : Option Pending)
         (q : Request) (course : Course) →
-        Exchanges ⟦<FailingLink<GatedLink<'static, DirectLink<'static, V>, G>> as Link>⟧ r l heard pending q course m → play.IsSame l m }
+        Exchanges ⟦<FailingLink<'static, GatedLink<'static, DirectLink<'static, V>, G>> as Link>⟧ r l heard pending q course m → play.IsSame l m }
 {}

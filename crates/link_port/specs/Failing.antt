@@ -9,7 +9,7 @@ use Rattle.link_port.specs.declared.failing.FailingLink.{FailingLink}
 
 -- the link inside
 abbrev pub inside : {L : Type 0} → FailingLink L → L
-inside link = link.inner
+inside link = link.inner.now
 
 -- the number of the call that fails, from 1, or 0
 abbrev pub number : {L : Type 0} → FailingLink L → ℕ
@@ -59,14 +59,11 @@ drops link request answer bytes = is_served link && is_due link && is_counted re
 abbrev pub calls_after : {L : Type 0} → FailingLink L → List ℕ → Result (Unit {0}) LinkError → List ℕ → ℕ
 calls_after link request answer bytes = if is_counted request answer bytes then min (calls link + 1) (2 ^ 32 - 1) else calls link
 
--- the same link over another one
-abbrev pub with_inside : {L : Type 0} → FailingLink L → L → FailingLink L
-with_inside link inner = record link { inner = inner }
-
--- it fails at the same call as before
+-- it fails at the same call as before, and is over the same link
 pub record IsSame {L : Type 0} (old new : FailingLink L) : Type 0 where
   pub number : number new ≡ number old
   pub served : is_served new ≡ is_served old
+  pub inner : new.inner.ghost_name ≡ old.inner.ghost_name
 
 -- the call fails, and the link inside knows nothing of it
 pub record Refuses {L : Type 0} (old : FailingLink L) (result : Result (Unit {0}) LinkError) (reply : List ℕ) (new : FailingLink L) : Type 0 where

@@ -1,20 +1,18 @@
 ghost use Rattle.std.specs.Prelude.{◌≡◌, [], false, true, Ok, Err};
 ghost use Rattle.link_wire.specs.declared.link.LinkError.TheVariants.{Failed};
 ghost use Rattle.link_port.specs.Failing as spec;
-ghost use Rattle.link_port.specs.contracts.failing.FailingLink.{the_row};
-ghost use Rattle.std.specs.Borrow.{Lends, sem};
 
 use crate::spelled::{is_more, is_nothing};
 use link_wire::{Link, LinkError};
 
-/// A link that passes calls on to another, and fails at one of them.
+/// A link that passes calls on to another, which it borrows, and fails at one of them.
 ///
 /// It counts the calls that the link inside answers, but not those that ask for the rest of a reply, nor those to which
 /// nothing waits. The call that fails is served, and its reply dropped; or it never reaches the link inside. From then on
 /// this link tells no more what was heard.
 #[derive(Drop)]
-pub struct FailingLink<L: Link> {
-    inner: L,
+pub struct FailingLink<'a, L: Link> {
+    inner: &'a mut L,
     number: u32,
     served: bool,
     calls: u32,
@@ -28,12 +26,13 @@ fn is_counted(request: &[u8], reply: &[u8]) -> bool
     !is_more(request) && !is_nothing(reply)
 }
 
-impl<L: Link> FailingLink<L> {
+impl<'a, L: Link> FailingLink<'a, L> {
     /// Fails at the call with this number, from 1; with the number 0 at none. Where `served`, the counted call with the number is
     /// passed on, and its reply dropped. Else the first call that doesn't ask for the rest of a reply, once one less were
     /// counted, isn't passed on.
-    pub fn new(inner: L, call: u32, served: bool) -> Self
-        ensures inside { spec.inside result ≡ inner }
+    pub fn new(inner: &'a mut L, call: u32, served: bool) -> Self
+        ensures inside { spec.inside result ≡ inner.old }
+        ensures same { result.inner.ghost_name ≡ inner.entry.ghost_name }
         ensures number { spec.number result ≡ call }
         ensures served { spec.is_served result ≡ served }
         ensures calls { spec.calls result ≡ 0 }
@@ -53,21 +52,6 @@ impl<L: Link> FailingLink<L> {
         ensures { result ≡ spec.calls self.now }
     {
         self.calls
-    }
-
-    /// The link inside. It takes no memory.
-    pub fn inner(&mut self) -> &mut L
-        ensures* lends { sem 𝓛 (Lends (the_row L.row) L.row self.entry result (spec.with_inside self.old)) }
-        ensures value { result.now ≡ spec.inside self.old }
-    {
-        &mut self.inner
-    }
-
-    /// The link inside. It takes no memory.
-    pub fn into_inner(self) -> L
-        ensures { result ≡ spec.inside self }
-    {
-        self.inner
     }
 
     // Whether the next call that counts is the one that fails.
@@ -99,7 +83,7 @@ impl<L: Link> FailingLink<L> {
     }
 }
 
-impl<L: Link> Link for FailingLink<L> {
+impl<L: Link> Link for FailingLink<'_, L> {
     ghost use Rattle.link_port.specs.Failing.{inside, has_failed, unless, fault_count, Behaves};
 
     ghost renderer = { λ link. unless (has_failed link) (L.renderer (inside link)) };

@@ -72,10 +72,11 @@ fn a_gate_sees_each_call_first(rt: HostRuntime) -> Result<(), Fail> {
     let gate = CheckGate::new(expected(alloc)?);
     assert!(rt; is_shared(&gate) && is_shared(&OpenGate));
     let mut reply = Vec::new(alloc);
-    let mut first = GatedLink::new(Watcher { gate: &gate }, 0, &gate);
+    let mut watcher = Watcher { gate: &gate };
+    let mut first = GatedLink::new(&mut watcher, 0, &gate);
     assert_eq!(rt; first.call(&NEXT, &mut reply), Ok(()));
     assert_eq!(rt; reply.get(1).copied(), Some(DONE));
-    let mut second = GatedLink::new(Watcher { gate: &gate }, 1, &gate);
+    let mut second = GatedLink::new(&mut watcher, 1, &gate);
     assert_eq!(rt; second.call(&MORE, &mut reply), Ok(()));
     assert!(rt; !gate.met());
     assert_eq!(rt; second.call(&NEXT, &mut reply), Ok(()));
@@ -103,7 +104,8 @@ fn a_link_fails_once(rt: HostRuntime) -> Result<(), Fail> {
     let alloc = rt.alloc();
     let gate = CheckGate::new(Vec::new(alloc));
     let mut reply = Vec::new(alloc);
-    let mut link = FailingLink::new(Watcher { gate: &gate }, 2, true);
+    let mut watcher = Watcher { gate: &gate };
+    let mut link = FailingLink::new(&mut watcher, 2, true);
     // Nothing waits.
     assert_eq!(rt; link.call(&NEXT, &mut reply), Ok(()));
     assert_eq!(rt; link.calls(), 0);
@@ -116,11 +118,12 @@ fn a_link_fails_once(rt: HostRuntime) -> Result<(), Fail> {
     assert_eq!(rt; link.call(&NEXT, &mut reply), Ok(()));
     assert_eq!(rt; link.calls(), 3);
     // The next one isn't passed on.
-    let mut link = FailingLink::new(GatedLink::new(link.into_inner(), 0, &OpenGate), 1, false);
+    let mut gated = GatedLink::new(&mut watcher, 0, &OpenGate);
+    let mut link = FailingLink::new(&mut gated, 1, false);
     assert_eq!(rt; link.call(&MORE, &mut reply), Ok(()));
     assert_eq!(rt; link.call(&NEXT, &mut reply), Err(LinkError::Failed));
     assert_eq!(rt; link.calls(), 0);
-    assert_eq!(rt; link.inner().call(&NEXT, &mut reply), Ok(()));
+    assert_eq!(rt; watcher.call(&NEXT, &mut reply), Ok(()));
     Ok(())
 }
 

@@ -1,7 +1,7 @@
 -- An exchange in a play.
 use Rattle.std.proofs.Common.{refl}
 use Rattle.link_laws.specs.Playing as play
-use Rattle.link_laws.proofs.Direct.{below, gated_over, inmost_same, seat, straight}
+use Rattle.link_laws.proofs.Direct.{below, gated_over, inside_same, seat, straight}
 use Rattle.link_laws.proofs.Failing.{stays_same}
 use Rattle.link_laws.proofs.Gated.{gated}
 use Rattle.link_laws.proofs.Talked.{no_stray, talks}
@@ -17,4 +17,5 @@ returns-clause-strays g c = λ l m q place ready is other calls.
 
 pub returns-clause-same : goal.returns-clause-same
 returns-clause-same g c = λ r l m heard pending q course calls.
-    record { failing = stays_same (gated straight) r l m heard pending q course calls; inmost = inmost_same r l m heard pending q course calls }
+    let same = inside_same r l m heard pending q course calls in
+    record { outermost = stays_same (gated straight) r l m heard pending q course calls; between = same.0; inmost = same.1 }
